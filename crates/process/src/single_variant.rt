@@ -1,0 +1,1 @@
+// A layer over any process that keeps one variant's bit of each weight.

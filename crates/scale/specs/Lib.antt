@@ -1,0 +1,4 @@
+-- The definitions that the contracts of scales cite.
+pub mod Algebra
+pub mod YesNo
+pub mod Variants
