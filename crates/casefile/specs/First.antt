@@ -1,0 +1,19 @@
+-- The first of several faults: by the order of the checks, and by position within one check.
+use mathlib.Core.Bool.{Bool, cond}
+use Prim.Native.Nat.{ℕ, zero, suc}
+use Rattle.std.specs.declared.option.Option.{Option}
+use Rattle.std.specs.declared.option.Option.the-variants.{Some, None}
+
+-- the fault x where the test holds
+abbrev pub flag : {X : Type 0} → Bool → X → Option X
+flag b x = cond b (Some x) None
+
+-- the first fault, and where there is none the second
+abbrev pub or-else : {X : Type 0} → Option X → Option X → Option X
+or-else (Some x) o = Some x
+or-else None o = o
+
+-- the fault at the least position below n that has one
+unfoldable pub earliest : {X : Type 0} → ℕ → (ℕ → Option X) → Option X
+earliest zero f = None
+earliest (suc n) f = or-else (earliest n f) (f n)

@@ -1,0 +1,3 @@
+-- The definitions that the contracts of refusals cite.
+pub mod Fault
+pub mod Line

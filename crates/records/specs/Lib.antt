@@ -1,0 +1,2 @@
+-- The definitions that the contracts of the shared records cite.
+pub mod Codes
