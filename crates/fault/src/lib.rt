@@ -4,6 +4,7 @@ ghost use Rattle.std.specs.Of.String.{string-bytes};
 ghost use Rattle.std.specs.Vec.{made};
 ghost use Rattle.fault.specs.Fault.{number, layer, first, second, byte-in-table};
 ghost use Rattle.fault.specs.Line.{refused-line};
+ghost use Rattle.fault.specs.declared.Fault.the-variants.{Table};
 use std::alloc::AllocError;
 use std::alloc::Global;
 
@@ -70,6 +71,25 @@ pub enum Fault {
     ShortBuffer,
     // places are left, and the initial node is not fixed
     PlacesLeft,
+}
+
+// A table's fault with the place of the table.
+#[derive(Clone, Copy, PartialEq, Debug)]
+pub struct Placed {
+    pub place: u8,
+    pub fault: TableFault,
+}
+
+// A table's fault is carried whole, with its place.
+pub impl From<Placed> for Fault as PlacedFault {
+    ghost converts = { λ p f. f ≡ Table (p .place) (p .fault) };
+
+    fn from(p: Placed) -> Fault {
+        Fault::Table {
+            place: p.place,
+            fault: p.fault,
+        }
+    }
 }
 
 impl TableFault {
