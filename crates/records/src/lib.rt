@@ -40,6 +40,21 @@ pub struct Node {
     pub value: u64,
 }
 
+// When an edge leads on: always, or when the rule of that number does.
+#[derive(Clone, Copy, PartialEq, Debug)]
+pub enum Guard {
+    Plain,
+    By { rule: u16 },
+}
+
+// An edge of a graph in memory.
+#[derive(Clone, Copy, PartialEq, Debug)]
+pub struct Edge {
+    pub guard: Guard,
+    pub weight: u64,
+    pub target: u32,
+}
+
 impl Kind {
     pub fn code(self) -> u8
         ensures { λ r. ⌜ r ≡ kind-code self ⌝ }

@@ -1,0 +1,2 @@
+-- Lemmas on scales.
+pub mod Bitwise
