@@ -3,7 +3,8 @@ use mathlib.Core.Bool.{Bool, cond}
 use mathlib.Core.List.{List, [], _∷_, _++_}
 use Prim.Native.Nat.{ℕ, _+_, _-_}
 use lib.Dec.{ltb}
-use Rattle.process.specs.Lts.{Lts}
+use Rattle.std.proofs.shelf.Tests.{cond-false, le-ltb}
+use Rattle.process.specs.Lts.{Lts, Bounded}
 use Rattle.process.specs.declared.Transition.{Transition}
 use Rattle.process.specs.declared.pool.Pool.{Pool}
 
@@ -23,3 +24,7 @@ pool p = record {
   initial = 0;
   transitions = λ s. cond (ltb s (p .capacity + 1)) (pool-transitions p s) [];
 }
+
+-- past the capacity there is no state, and so no transition
+pub pool-bounded : (p : Pool) → Bounded (pool p)
+pool-bounded p s h = cond-false (ltb s (p .capacity + 1)) (pool-transitions p s) [] (le-ltb s (p .capacity + 1) h)

@@ -1,9 +1,10 @@
 -- What a process means when one variant alone is looked at.
+use mathlib.Core.Path.{ap}
 use mathlib.Core.Bool.{cond}
 use mathlib.Core.List.{List, map}
 use Prim.Native.Nat.{ℕ, _/_, _%_, _^_}
 use lib.Dec.{ltb}
-use Rattle.process.specs.Lts.{Lts}
+use Rattle.process.specs.Lts.{Lts, Bounded}
 use Rattle.process.specs.declared.Transition.{Transition}
 
 -- bit v of a code; there is none above 63
@@ -20,3 +21,6 @@ single-variant v l = record {
   initial = l .initial;
   transitions = λ s. map (cut-transition v) (l .transitions s);
 }
+
+pub single-variant-bounded : (v : ℕ) (l : Lts) → Bounded l → Bounded (single-variant v l)
+single-variant-bounded v l bounded s h = ap (map (cut-transition v)) (bounded s h)

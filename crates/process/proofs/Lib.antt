@@ -1,0 +1,2 @@
+-- Lemmas on processes.
+pub mod Nth
