@@ -1,2 +1,3 @@
 -- Lemmas on scales.
 pub mod Bitwise
+pub mod Laws

@@ -1,41 +1,6 @@
--- The laws of the variants scale: each from the same law of the bitwise operations, which keep within 64 bits.
-use mathlib.Core.Path.{refl}
-use Prim.Native.Nat.{_-_, _^_}
-use native.Mathlib.Omega.{arith}
-use lib.Bits.{and-comm, or-comm, and-lt, or-lt, and-mask}
-use lib.Count.{ones-le}
-use Rattle.std.proofs.shelf.Tests.{ltb-true}
-use Rattle.std.proofs.shelf.Ways.{tells}
-use Rattle.scale.proofs.Bitwise.{or-assoc, and-assoc, or-and, and-or, and-distributes, complement-or, ones-rise}
+-- The laws of the variants scale.
+use Rattle.scale.proofs.Laws.{variants-laws}
 use Rattle.scale.proofs.variants.VariantsScale.the-impl.Needs as need
 
 pub lawful-law : need.lawful-law
-lawful-law =
-    record {
-      coded = λ x h. ltb-true x (2 ^ 64) h;
-      lowest-value = refl;
-      highest-value = refl;
-      join-value = λ x y. grind (arith, tells, or-lt 64 x y);
-      meet-value = λ x y. grind (arith, tells, and-lt 64 x y);
-      complement-value = λ x. grind (arith, tells);
-      join-stray = λ x y h. grind (arith, tells);
-      meet-stray = λ x y h. grind (arith, tells);
-      complement-stray = λ x h. grind (arith, tells);
-      join-comm = λ x y. grind (arith, tells, or-comm);
-      meet-comm = λ x y. grind (arith, tells, and-comm);
-      join-assoc = λ x y z hx hy hz. grind (arith, tells, or-lt 64 x y, or-lt 64 y z, or-assoc x y z);
-      meet-assoc = λ x y z hx hy hz. grind (arith, tells, and-lt 64 x y, and-lt 64 y z, and-assoc x y z);
-      join-meet = λ x y hx hy. grind (arith, tells, and-lt 64 x y, or-and x y);
-      meet-join = λ x y hx hy. grind (arith, tells, or-lt 64 x y, and-or x y);
-      distributes = λ x y z hx hy hz. grind (arith, tells, or-lt 64 y z, and-lt 64 x y, and-lt 64 x z, and-distributes x y z);
-      twice = λ x h. grind (arith, tells);
-      complement-join = λ x y hx hy. grind (arith, tells, or-lt 64 x y, complement-or 64 x y);
-      lowest-join = λ x h. grind (arith, tells);
-      highest-meet = λ x h. grind (arith, tells, and-comm (2 ^ 64 - 1) x, and-mask x 64);
-      apart = λ e. omega arith;
-      rank-within = λ x. grind (arith, tells, ones-le 64 x);
-      rank-stray = λ x h. grind (arith, tells);
-      rank-rises = λ x y under differ. grind (arith, tells, ones-rise 64 x y);
-      tall = omega arith;
-      short = omega arith;
-    }
+lawful-law = variants-laws
