@@ -15,3 +15,7 @@ pub mod Theorems
 pub mod Check
 pub mod Computed
 pub mod Known
+pub mod Sub
+pub mod Folding
+pub mod Trimming
+pub mod Kept

@@ -8,3 +8,5 @@ pub mod Cut
 pub mod Theorems
 pub mod Value
 pub mod Known
+pub mod Fold
+pub mod Trim

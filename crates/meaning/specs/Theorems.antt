@@ -1,16 +1,18 @@
 -- What is proved of the meaning, for every scale that shows the laws.
 use mathlib.Core.Path.{_≡_}
-use mathlib.Core.Bool.{true}
+use mathlib.Core.Bool.{Bool, true}
 use Prim.Native.Nat.{ℕ, _<_}
 use Rattle.process.specs.SingleVariant.{bit}
 use Rattle.scale.specs.Algebra.{Algebra, Laws, Value, Under}
 use Rattle.scale.specs.Variants.{variants}
 use Rattle.scale.specs.YesNo.{yes-no}
 use Rattle.meaning.specs.Cut.{cut-network, cut-graph}
+use Rattle.meaning.specs.Fold.{fold-graph}
 use Rattle.meaning.specs.Graph.{Graph, Position, Fits, network-system, reading-system, Well-formed}
 use Rattle.meaning.specs.Network.{Book, Network, Places, Valid, put}
 use Rattle.meaning.specs.Quotient.{pair, quotient, without}
 use Rattle.meaning.specs.System.{Solution, Strong}
+use Rattle.meaning.specs.Trim.{Marks, rank, trim-graph}
 
 -- node q at global state g is a position of the graph on the network
 abbrev pub At : Network → Places → Graph → Position → Type 0
@@ -78,3 +80,25 @@ Removal-keeps =
     → Solution A (network-system A B N (without left p) (quotient A B left p (N p) G)) W
     → (q : Position) → At N left G q
     → V q ≡ W (record { node = pair (N p .states) (q .node) (q .state p); state = put p 0 (q .state) }))
+
+-- Trimming leaves the value as it is at every node that stays: number i of the trimmed graph has the value
+-- of the i-th node that can be reached.
+abbrev pub Trim-keeps : Type 0
+Trim-keeps =
+    (A : Algebra) → Laws A → (B : Book) (N : Network) (left : Places) (G : Graph) → Fits A B N left G
+    → (marks : ℕ → Bool) → G .initial < G .nodes → Marks G marks
+    → Fits A B N left (trim-graph marks G)
+    × ((V W : Position → ℕ) → Solution A (network-system A B N left G) V
+    → Solution A (network-system A B N left (trim-graph marks G)) W
+    → (q : Position) → At N left G q → marks (q .node) ≡ true
+    → V q ≡ W (record { node = rank marks (q .node); state = q .state }))
+
+-- Folding leaves the value as it is at every node.
+abbrev pub Fold-keeps : Type 0
+Fold-keeps =
+    (A : Algebra) → Laws A → (B : Book) (N : Network) (left : Places) (G : Graph) → Fits A B N left G
+    → (R Q : ℕ → ℕ) → Solution A (reading-system B (A .lowest) G) R → Solution A (reading-system B (A .highest) G) Q
+    → Fits A B N left (fold-graph R Q G)
+    × ((V W : Position → ℕ) → Solution A (network-system A B N left G) V
+    → Solution A (network-system A B N left (fold-graph R Q G)) W
+    → (q : Position) → At N left G q → V q ≡ W q)

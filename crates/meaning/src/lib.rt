@@ -1,7 +1,7 @@
 // What a verdict means: the value of a formula on a network of processes, and what is proved of it.
 // Each function here stands for one theorem: its contract is the statement.
 ghost use Rattle.meaning.specs.Known.{Known-cases};
-ghost use Rattle.meaning.specs.Theorems.{Value-exists, Value-unique, Value-strong, Reading-exists, Reading-unique, Readings-bound, Cut-to-variant, Removal-keeps};
+ghost use Rattle.meaning.specs.Theorems.{Value-exists, Value-unique, Value-strong, Reading-exists, Reading-unique, Readings-bound, Cut-to-variant, Removal-keeps, Trim-keeps, Fold-keeps};
 
 // A graph that fits a network has a value there,
 pub fn value_exists()
@@ -37,6 +37,16 @@ pub fn variants_are_cut()
 // Taking a process into the graph leaves the value as it is.
 pub fn removal_keeps_the_value()
     ensures { λ _. ⌜ Removal-keeps ⌝ }
+{}
+
+// Trimming leaves the value as it is at every node that stays.
+pub fn trim_keeps_the_value()
+    ensures { λ _. ⌜ Trim-keeps ⌝ }
+{}
+
+// Folding leaves the value as it is.
+pub fn fold_keeps_the_value()
+    ensures { λ _. ⌜ Fold-keeps ⌝ }
 {}
 
 // Small cases have the values that they are known to have.
