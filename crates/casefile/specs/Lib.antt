@@ -1,6 +1,4 @@
--- The definitions that the contracts of the case file cite.
-pub mod Bytes
-pub mod Layout
-pub mod Table
-pub mod First
+-- The definitions that the contracts of the checks cite.
+pub mod TableFault
 pub mod Refusal
+pub mod WellFormed

@@ -1,9 +1,10 @@
 -- Why a case file is refused: every check of the format, in its order, the first position reported.
-use mathlib.Core.Bool.{Bool, cond, not, _||_, _&&_, true, false}
+use mathlib.Core.Path.{_≡_}
+use mathlib.Core.Bool.{Bool, cond, not, _||_, _&&_, true}
 use mathlib.Core.List.{List}
-use Prim.Native.Nat.{ℕ, _+_, _-_, _*_}
+use Prim.Native.Nat.{ℕ, _+_, _-_, _≤_, _<_}
 use lib.Dec.{eqb, ltb, leb}
-use lib.ListN.{length, drop}
+use lib.ListN.{length}
 use Rattle.std.specs.Options.{isSome, mapped}
 use Rattle.std.specs.declared.option.Option.{Option}
 use Rattle.std.specs.declared.option.Option.the-variants.{Some, None}
@@ -11,10 +12,10 @@ use Rattle.fault.specs.declared.Fault.{Fault}
 use Rattle.fault.specs.declared.Fault.the-variants.{ShortFile, Header, Sections, Rule, Block, Node, Edge, Table, NotLeft}
 use Rattle.records.specs.Codes.{none}
 use Rattle.scale.specs.Algebra.{Algebra}
-use Rattle.casefile.specs.First.{flag, or-else, earliest}
-use Rattle.casefile.specs.Layout.{scale-number, header-of, tables-at, rule-label, rule-result, block-code, kind-byte, node-row, edge-row, edge-zero}
-use Rattle.casefile.specs.Table.{table-from, table-fault, excess-fault}
-use Rattle.casefile.specs.declared.header.Header as declared
+use Rattle.fault.specs.First.{flag, or-else, earliest}
+use Rattle.format.specs.Layout.{scale-number, header-of, tables-at, rule-label, rule-result, block-code, kind-byte, node-row, edge-row, edge-zero, table-in}
+use Rattle.casefile.specs.TableFault.{table-fault, excess-fault}
+use Rattle.format.specs.declared.header.Header as declared
 
 -- 1: the file is shorter than a header
 abbrev pub short-fault : List ℕ → Option Fault
@@ -40,10 +41,14 @@ header-fault n bs =
 abbrev pub sections-fault : List ℕ → declared.Header → Option Fault
 sections-fault bs h = flag (ltb (length bs) (tables-at h)) (Sections (length bs))
 
--- 4: a rule without participant, or with result `none`
-abbrev pub has-participant : List ℕ → declared.Header → ℕ → Bool
-has-participant bs h r = isSome (earliest (h .places) (λ p. flag (not (eqb (rule-label bs h r p) none)) p))
+-- place p, where it takes part in rule r
+abbrev pub participant : List ℕ → declared.Header → ℕ → ℕ → Option ℕ
+participant bs h r p = flag (not (eqb (rule-label bs h r p) none)) p
 
+abbrev pub has-participant : List ℕ → declared.Header → ℕ → Bool
+has-participant bs h r = isSome (earliest (h .places) (participant bs h r))
+
+-- 4: a rule without participant, or with result `none`
 abbrev pub rule-fault : List ℕ → declared.Header → ℕ → Option Fault
 rule-fault bs h r = flag (not (has-participant bs h r) || eqb (rule-result bs h r) none) (Rule r)
 
@@ -66,10 +71,16 @@ abbrev pub node-fault : Algebra → List ℕ → declared.Header → ℕ → Opt
 node-fault A bs h i =
     let n = node-row bs h i in
     flag (ltb 2 (kind-byte bs h i)
-      || not (ltb (n .block) (h .blocks))
-      || not (eqb (n .first) (due bs h i))
-      || ltb (h .edges) (n .first + n .count)
-      || value-wrong A bs h i) (Node i)
+    || not (ltb (n .block) (h .blocks))
+    || not (eqb (n .first) (due bs h i))
+    || ltb (h .edges) (n .first + n .count)
+    || value-wrong A bs h i) (Node i)
+
+-- what the nodes' check leaves to the edges': the ranges follow one another and end within the edges
+pub record Laid-out (bs : List ℕ) (h : declared.Header) : Type 0 where
+  pub follows : (i : ℕ) → i < h .nodes → node-row bs h i .first ≡ due bs h i
+  pub ends : (i : ℕ) → i < h .nodes → node-row bs h i .first + node-row bs h i .count ≤ h .edges
+  pub few : h .edges ≤ 16384
 
 -- node i has edge e
 abbrev pub owns : List ℕ → declared.Header → ℕ → ℕ → Bool
@@ -84,19 +95,26 @@ abbrev pub owner-wrong : List ℕ → declared.Header → ℕ → Option ℕ →
 owner-wrong bs h e None = true
 owner-wrong bs h e (Some i) = ltb (node-row bs h (edge-row bs h e .target) .block) (node-row bs h i .block)
 
--- 7: an edge's target past the nodes, its zero field, its target in a lower block, or no owner
-abbrev pub edge-fault : List ℕ → declared.Header → ℕ → Option Fault
-edge-fault bs h e =
+-- edge e with that owner: its target past the nodes, its zero field, its target in a lower block, or no owner
+abbrev pub owned-fault : List ℕ → declared.Header → Option ℕ → ℕ → Option Fault
+owned-fault bs h o e =
     flag (not (ltb (edge-row bs h e .target) (h .nodes))
-      || not (eqb (edge-zero bs h e) 0)
-      || owner-wrong bs h e (owner bs h e)) (Edge e)
+    || not (eqb (edge-zero bs h e) 0)
+    || owner-wrong bs h e o) (Edge e)
+
+-- the first fault among node i's own edges
+abbrev pub own-fault : List ℕ → declared.Header → ℕ → Option Fault
+own-fault bs h i = earliest (node-row bs h i .count) (λ k. owned-fault bs h (Some i) (node-row bs h i .first + k))
+
+-- 7: an edge that is wrong by its owner
+abbrev pub edge-fault : List ℕ → declared.Header → ℕ → Option Fault
+edge-fault bs h e = owned-fault bs h (owner bs h e) e
 
 -- 8: a table's own fault with its place, table by table; bytes after the last one
 abbrev pub tables-fault : List ℕ → declared.Header → Option Fault
 tables-fault bs h =
-    let tables = drop (tables-at h) bs in
-    or-else (earliest (h .places) (λ p. mapped (Table p) (table-fault (table-from p tables))))
-    (mapped (Table (h .places - 1)) (excess-fault (table-from (h .places - 1) tables)))
+    or-else (earliest (h .places) (λ p. mapped (Table p) (table-fault (table-in bs h p))))
+    (mapped (Table (h .places - 1)) (excess-fault (table-in bs h (h .places - 1))))
 
 -- the checks by the header, in their order, each over the whole file before the next
 abbrev pub body-fault : Algebra → List ℕ → declared.Header → Option Fault

@@ -1,3 +1,4 @@
 -- The definitions that the contracts of refusals cite.
 pub mod Fault
 pub mod Line
+pub mod First

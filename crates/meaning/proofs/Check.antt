@@ -1,4 +1,4 @@
--- Tests that compute whether a graph fits a network.
+-- What the tests of a graph and a network show.
 use mathlib.Core.Path.{_≡_, refl, sym, ap, subst, _∙_}
 use mathlib.Core.Bool.{Bool, true, false, cond, not, _&&_}
 use mathlib.Core.List.{List, [], _∷_}
@@ -17,20 +17,12 @@ use Rattle.records.specs.declared.Guard.the-variants.{Plain, By}
 use Rattle.records.specs.declared.Kind.{Kind}
 use Rattle.records.specs.declared.Kind.the-variants.{AnyOf, AllOf, Fixed}
 use Rattle.scale.specs.Algebra.{Algebra, Value}
+use Rattle.meaning.specs.Check.{all, every, transition-test, tame-test, guard-test, fixed-test, edge-test, node-test}
 use Rattle.meaning.specs.Graph.{Graph, Guards, Edge-fits, Well-formed, Fits}
 use Rattle.meaning.specs.Member.{In}
 use Rattle.meaning.specs.Network.{Book, Network, Places, Tame, counts}
 use Rattle.meaning.specs.Quotient.{any}
 use Rattle.meaning.proofs.Ways.{any-true}
-
--- a test at every number below n, and at every element
-abbrev pub all : ℕ → (ℕ → Bool) → Bool
-all zero t = true
-all (suc n) t = all n t && t n
-
-abbrev pub every : {X : Type 0} → (X → Bool) → List X → Bool
-every t [] = true
-every t (x ∷ xs) = t x && every t xs
 
 pub all-at : (n : ℕ) (t : ℕ → Bool) → all n t ≡ true → (q : ℕ) → q < n → t q ≡ true
 all-at zero t h q lt = absurd (omega arith)
@@ -42,12 +34,6 @@ pub every-at : {X : Type 0} (t : X → Bool) (xs : List X) → every t xs ≡ tr
 every-at t [] h x i = absurd i
 every-at t (y ∷ xs) h x (inl e) = ap t e ∙ and-parts (t y) (every t xs) h .0
 every-at t (y ∷ xs) h x (inr i) = every-at t xs (and-parts (t y) (every t xs) h .1) x i
-
-abbrev pub transition-test : Algebra → Lts → Transition → Bool
-transition-test A l t = not (eqb (t .label) none) && (ltb (t .target) (l .states) && A .value (t .weight))
-
-abbrev pub tame-test : Algebra → Lts → Bool
-tame-test A l = ltb (l .initial) (l .states) && all (l .states) (λ s. every (transition-test A l) (l .transitions s))
 
 pub tame-tested : (A : Algebra) (l : Lts) → tame-test A l ≡ true → Tame A l
 tame-tested A l h =
@@ -65,24 +51,9 @@ tame-tested A l h =
       weights = λ s lt t i. rest t (at s lt t i) .1;
     }
 
-abbrev pub guard-test : Book → Places → Guard → Bool
-guard-test B left Plain = true
-guard-test B left (By r) = any 8 (counts B left r)
-
 guard-tested : (B : Book) (left : Places) (γ : Guard) → guard-test B left γ ≡ true → Guards B left γ
 guard-tested B left Plain h = tt
 guard-tested B left (By r) h = any-true 8 (counts B left r) h
-
-abbrev pub fixed-test : Algebra → Kind → ℕ → Bool
-fixed-test A AnyOf v = true
-fixed-test A AllOf v = true
-fixed-test A Fixed v = A .value v
-
-abbrev pub edge-test : Algebra → Book → Places → Graph → ℕ → Edge → Bool
-edge-test A B left G q e = A .value (e .weight) && (ltb (e .target) (G .nodes) && (leb (G .block q) (G .block (e .target)) && guard-test B left (e .guard)))
-
-abbrev pub node-test : Algebra → Book → Places → Graph → ℕ → Bool
-node-test A B left G q = ltb (G .block q) (length (B .signs)) && (fixed-test A (G .kind q) (G .value q) && every (edge-test A B left G q) (G .edges q))
 
 pub formed-tested : (A : Algebra) (B : Book) (left : Places) (G : Graph) → ((p : ℕ) → left p ≡ true → p < B .places) → all (G .nodes) (node-test A B left G) ≡ true → Well-formed A B left G
 formed-tested A B left G places h =

@@ -13,7 +13,8 @@ use Rattle.meaning.specs.Network.{Book, Network, Places, State, Valid, put, st
 use Rattle.meaning.specs.Quotient.{pair, quotient, without}
 use Rattle.meaning.specs.System.{exactly, Solution, Strong}
 use Rattle.meaning.specs.Value.{beginning, Has-value}
-use Rattle.meaning.proofs.Check.{all, all-at}
+use Rattle.meaning.specs.Check.{all}
+use Rattle.meaning.proofs.Check.{all-at}
 use Rattle.meaning.proofs.Exists.{alone-alike, alone-to, exists, unique}
 use Rattle.meaning.proofs.Gather.{reading-closed}
 use Rattle.meaning.proofs.Iterate.{run, one-block}

@@ -50,15 +50,15 @@ bit-small v x = ⊎-elim (λ e. rw e (omega arith)) (λ e. rw e (omega arith)) (
 half-pow : (v : ℕ) → 2 ^ suc v / 2 ≡ 2 ^ v
 half-pow v = omega (arith, pow-suc 2 v)
 
-pow-bit-same : (v : ℕ) → 2 ^ v / 2 ^ v % 2 ≡ 1
+pub pow-bit-same : (v : ℕ) → 2 ^ v / 2 ^ v % 2 ≡ 1
 pow-bit-same zero = refl
 pow-bit-same (suc v) = sym (bit-half v (2 ^ suc v)) ∙ ap (λ x. x / 2 ^ v % 2) (half-pow v) ∙ pow-bit-same v
 
-zero-bit : (w : ℕ) → 0 / 2 ^ w % 2 ≡ 0
+pub zero-bit : (w : ℕ) → 0 / 2 ^ w % 2 ≡ 0
 zero-bit zero = refl
 zero-bit (suc w) = sym (bit-half w 0) ∙ zero-bit w
 
-pow-bit-other : (w v : ℕ) → (w ≡ v → ⊥) → 2 ^ v / 2 ^ w % 2 ≡ 0
+pub pow-bit-other : (w v : ℕ) → (w ≡ v → ⊥) → 2 ^ v / 2 ^ w % 2 ≡ 0
 pow-bit-other zero zero n = absurd (n refl)
 pow-bit-other zero (suc v) n = omega (arith, pow-suc 2 v)
 pow-bit-other (suc w) zero n = sym (bit-half w 1) ∙ zero-bit w

@@ -12,7 +12,8 @@ use Rattle.scale.proofs.Laws.{variants-laws, yes-no-laws}
 use Rattle.meaning.specs.Graph.{Graph, Fits}
 use Rattle.meaning.specs.Known.{Case, Known, Known-cases, book, network, everywhere, graph, session, self-loop, weight-any, weight-all, weights-meet, two-takes}
 use Rattle.meaning.specs.Network.{start}
-use Rattle.meaning.proofs.Check.{all, all-at, tame-test, tame-tested, node-test, formed-tested}
+use Rattle.meaning.specs.Check.{all, tame-test, node-test}
+use Rattle.meaning.proofs.Check.{all-at, tame-tested, formed-tested}
 use Rattle.meaning.proofs.Computed.{computed, final, after, spot}
 
 module _ {A : Algebra} (L : Laws A) (c : Case) where

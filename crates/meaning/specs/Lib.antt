@@ -4,6 +4,7 @@ pub mod System
 pub mod Network
 pub mod Graph
 pub mod Quotient
+pub mod Check
 pub mod Cut
 pub mod Theorems
 pub mod Value

@@ -1,63 +1,17 @@
--- The table of one place: its fields, the process that it means, and what can be wrong with it.
--- A table is given by the bytes t from its own start on, to the end of the file.
-use mathlib.Core.Bool.{Bool, cond, not, _||_, _&&_}
-use mathlib.Core.List.{List, [], map}
-use Prim.Native.Nat.{ℕ, zero, suc, _+_, _-_, _*_}
+-- What can be wrong with the table of one place, which is given by the bytes t from its own start on.
+use mathlib.Core.Bool.{Bool, not, _||_, _&&_}
+use mathlib.Core.List.{List}
+use Prim.Native.Nat.{ℕ, _+_, _-_}
 use lib.Dec.{eqb, ltb}
-use lib.ListN.{length, drop}
-use Rattle.std.specs.Iters.{counting}
+use lib.ListN.{length}
 use Rattle.std.specs.declared.option.Option.{Option}
+use Rattle.std.specs.declared.result.Result.{Result}
+use Rattle.std.specs.declared.result.Result.the-variants.{Ok, Err}
+use Rattle.fault.specs.declared.Placed.{Placed}
 use Rattle.fault.specs.declared.TableFault.{TableFault}
 use Rattle.fault.specs.declared.TableFault.the-variants.{States, Transitions, Initial, Start, CutOff, Excess}
-use Rattle.process.specs.Lts.{Lts}
-use Rattle.process.specs.declared.Transition.{Transition}
-use Rattle.casefile.specs.Bytes.{byte, two, four, eight}
-use Rattle.casefile.specs.First.{flag, or-else, earliest}
-
--- three numbers of four bytes, then a start for each state and one more, then the transitions
-abbrev pub states : List ℕ → ℕ
-states t = four t 0
-
-abbrev pub transitions : List ℕ → ℕ
-transitions t = four t 4
-
-abbrev pub initial : List ℕ → ℕ
-initial t = four t 8
-
-abbrev pub start-at : ℕ → ℕ
-start-at i = 12 + 4 * i
-
--- the number of state i's first transition; the transitions of a state end where the next one's start
-abbrev pub start : List ℕ → ℕ → ℕ
-start t i = four t (start-at i)
-
--- a transition is a label of two bytes, a target of four and a weight of eight
-abbrev pub transition-at : List ℕ → ℕ → ℕ
-transition-at t k = start-at (states t + 1) + 14 * k
-
-abbrev pub transition-row : List ℕ → ℕ → Transition
-transition-row t k = record {
-  label = two t (transition-at t k);
-  target = four t (transition-at t k + 2);
-  weight = eight t (transition-at t k + 6);
-}
-
--- the length of the whole table
-abbrev pub size : List ℕ → ℕ
-size t = transition-at t (transitions t)
-
--- the process that the table means
-abbrev pub table-lts : List ℕ → Lts
-table-lts t = record {
-  states = states t;
-  initial = initial t;
-  transitions = λ s. cond (ltb s (states t)) (map (transition-row t) (counting (start t s) (start t (s + 1) - start t s))) [];
-}
-
--- the tables follow one another without gaps: the bytes from table p on
-unfoldable pub table-from : ℕ → List ℕ → List ℕ
-table-from zero t = t
-table-from (suc p) t = table-from p (drop (size t) t)
+use Rattle.format.specs.Table.{states, transitions, initial, start-at, start, transition-at, size}
+use Rattle.fault.specs.First.{flag, or-else, earliest}
 
 -- the field of n bytes that begins at `at` does not end within the file
 abbrev pub cut-off : List ℕ → ℕ → ℕ → Bool
@@ -100,3 +54,8 @@ table-fault t =
 -- bytes after the last table
 abbrev pub excess-fault : List ℕ → Option TableFault
 excess-fault t = flag (ltb (size t) (length t)) (Excess (size t))
+
+-- a table's answer with its place
+abbrev pub placed : {T : Type 0} → ℕ → Result T TableFault → Result T Placed
+placed p (Ok x) = Ok x
+placed p (Err f) = Err (record { place = p; fault = f })

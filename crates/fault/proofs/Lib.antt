@@ -1,0 +1,2 @@
+-- Lemmas on refusals.
+pub mod First

@@ -1,0 +1,4 @@
+-- The definitions that the contracts of the format cite.
+pub mod Bytes
+pub mod Layout
+pub mod Table
