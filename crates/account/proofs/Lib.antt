@@ -1,0 +1,3 @@
+-- The lemmas of an account.
+mod Texts
+mod Scales

@@ -1,0 +1,3 @@
+-- The definitions that the contracts of an account cite.
+pub mod Account
+pub mod Report

@@ -1,0 +1,11 @@
+-- What every call of the engine does, and what is promised of lists of calls.
+pub mod Memory
+pub mod Left
+pub mod Fit
+pub mod Process
+pub mod Opening
+pub mod Outcome
+pub mod Runs
+pub mod Promise
+pub mod NotEmpty
+pub mod Again

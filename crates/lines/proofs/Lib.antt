@@ -1,0 +1,2 @@
+-- The lemmas of lines.
+mod Gathered
