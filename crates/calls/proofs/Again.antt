@@ -45,7 +45,7 @@ every-from : {X : Type 0} (t : X → Bool) (xs : List X) → ((x : X) → In x x
 every-from t [] h = refl
 every-from t (x ∷ xs) h = and-from (t x) (every t xs) (h x (inl refl)) (every-from t xs (λ y i. h y (inr i)))
 
-any-from : (n : ℕ) (t : ℕ → Bool) (q : ℕ) → q < n → t q ≡ true → any n t ≡ true
+pub any-from : (n : ℕ) (t : ℕ → Bool) (q : ℕ) → q < n → t q ≡ true → any n t ≡ true
 any-from zero t q lt h = absurd (omega arith)
 any-from (suc n) t q lt h =
     ⊎-elim (λ e. or-right (any n t) (t n) (ap t (sym e) ∙ h)) (λ (ne : q ≡ n → ⊥). or-left (any n t) (t n) (any-from n t q (omega arith) h)) (cases-eq q n)

@@ -11,15 +11,8 @@ use Rattle.meaning.specs.Member.{In}
 use Rattle.meaning.specs.Network.{Book, Network, Places, Valid}
 use Rattle.meaning.specs.System.{Next, goes, ends, exactly, Solution}
 use Rattle.meaning.proofs.Removal.{network-closed}
+use Rattle.calls.specs.Equal.{Agree, Equal-below}
 use Rattle.meaning.proofs.Transfer.{Alike, next-map, transfer}
-
-pub record Agree (G H : Graph) : Type 0 where
-  pub nodes : H .nodes ≡ G .nodes
-  pub initial : H .initial ≡ G .initial
-  pub kind : (q : ℕ) → q < G .nodes → H .kind q ≡ G .kind q
-  pub block : (q : ℕ) → q < G .nodes → H .block q ≡ G .block q
-  pub value : (q : ℕ) → q < G .nodes → H .value q ≡ G .value q
-  pub edges : (q : ℕ) → q < G .nodes → H .edges q ≡ G .edges q
 
 below : (G H : Graph) → Agree G H → (q : ℕ) → q < H .nodes → q < G .nodes
 below G H a q lt = subst (λ n. q < n) (a .nodes) lt
@@ -76,3 +69,6 @@ module _ {A : Algebra} (L : Laws A) (B : Book) (N : Network) (left : Places) (G 
   pub agree-solution : Fits A B N left G → (V : Position → ℕ) → Solution A (network-system A B N left G) V → Solution A (network-system A B N left H) V
   unfolding agree-alike
   agree-solution f V v = transfer L (network-closed L B N left G f) (network-closed L B N left H (agree-fits f)) agree-alike exactly V v
+
+pub equal-below : Equal-below
+equal-below A L B N left G H a f = (agree-fits L B N left G H a f, agree-solution L B N left G H a f)

@@ -10,3 +10,5 @@ pub mod Again
 pub mod Reaches
 pub mod Opened
 pub mod FitsAgain
+pub mod Reach
+pub mod Exist

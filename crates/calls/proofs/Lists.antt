@@ -1,5 +1,5 @@
 -- Lists of calls keep the value, call after call.
-use mathlib.Core.Path.{_≡_, refl, sym, ap, subst, _∙_}
+use mathlib.Core.Path.{_≡_, refl, sym, ap, subst, subst₂, _∙_}
 use mathlib.Core.Bool.{Bool, true, false, cond, not, _&&_, _||_}
 use mathlib.Core.List.{List, [], _∷_}
 use mathlib.Core.Logic.{_⊎_, inl, inr, ⊎-elim}
@@ -67,83 +67,98 @@ module _ {A : Algebra} (L : Laws A) (B : Book) (few : B .places ≤ 8) (N : Netw
   gone : (r : Remainder) (m : Memory) (p : ℕ) → Fitting A B r m → left-places (r .left) p ≡ true → (d : Removal) → left-places (left-without (r .left) p) (d .place) ≡ true → d .place ≡ p → ⊥
   gone r m p f here d h = without-left (left-places (r .left)) p (d .place) (subst (λ z. z (d .place) ≡ true) (rest-of r m p f here) h) .1
 
+  -- the places left, by equal numbers
+  left-at : (s : Remainder) (l x : ℕ) → s .left ≡ l → left-places l x ≡ true → left-places (s .left) x ≡ true
+  left-at s l x e h = subst (λ k. left-places k x ≡ true) (sym e) h
+
+  left-from : (s : Remainder) (l x : ℕ) → s .left ≡ l → left-places (s .left) x ≡ true → left-places l x ≡ true
+  left-from s l x e h = subst (λ k. left-places k x ≡ true) e h
+
   -- what is tame at the end and what was taken in makes everything tame
   pub tame-all : {s u : Stage} {cs : List Call} {gs : List Removal} → Runs A B s cs u gs → Given N gs → Tames L B few N (numbers-at u .left) → Tames L B few N (numbers-at s .left)
   tame-all done g t = t
   tame-all (refused f e run) g t = tame-all run g t
-  tame-all (removes {r} {m} p l w e run) g t = λ x h.
+  tame-all (removes {r} {s} {m} p l w e o run) g t = λ x h.
       let k = taken A B r m p l w e in
       ⊎-elim
       (λ same. subst (λ y. Tame A (N y)) (sym same) (rw (g (record { place = p; process = l }) (inl refl)) (k .tame)))
       (λ apart.
-      tame-all run (λ d i. g d (inr i)) t x (subst (λ z. z x ≡ true) (sym (rest-of r m p (k .fits) (k .here))) (without-other (left-places (r .left)) p x apart ∙ h)))
+      tame-all run (λ d i. g d (inr i)) t x
+      (left-at s (left-without (r .left) p) x (ap (λ y. y .left) (o .remainder)) (subst (λ z. z x ≡ true) (sym (rest-of r m p (k .fits) (k .here))) (without-other (left-places (r .left)) p x apart ∙ h))))
       (cases-eq x p)
-  tame-all (trims w numbers marks e mk run) g t = tame-all run g t
-  tame-all (folds w lower upper R Q e lo up run) g t = tame-all run g t
+  tame-all (trims {r} {s} w numbers given e o run) g t = λ x h. tame-all run g t x (left-at s (r .left) x (ap (λ y. y .left) (o .remainder)) h)
+  tame-all (folds {r} {s} w lower upper low high e o run) g t = λ x h. tame-all run g t x (left-at s (r .left) x (ap (λ y. y .left) (o .remainder)) h)
   tame-all (closes e) g t = t
 
   -- a step, and what follows it
-  onward : (r : Remainder) (m : Memory) (l : ℕ) (G : Graph) (w : Memory) (u : Stage) → Step L B few N r m l G w
-      → Same L B few N l (held (numbers-of G l) (written G w)) (numbers-at u .left) (held (numbers-at u) (memory-at u))
+  onward : (r : Remainder) (m : Memory) (l : ℕ) (G : Graph) (w : Memory) (s : Remainder) (after : Memory) (u : Stage) → s ≡ numbers-of G l → after ≡ written G w → Step L B few N r m l G w
+      → Same L B few N (s .left) (held s after) (numbers-at u .left) (held (numbers-at u) (memory-at u))
       → Same L B few N (r .left) (held r m) (numbers-at u .left) (held (numbers-at u) (memory-at u))
-  onward r m l G w u step rest =
-      same-trans L B few N (r .left) (held r m) l (held (numbers-of G l) (written G w)) (numbers-at u .left) (held (numbers-at u) (memory-at u)) (step .1) (step .0) rest
+  onward r m l G w s after u is held-is step rest =
+      same-trans L B few N (r .left) (held r m) l (held (numbers-of G l) (written G w)) (numbers-at u .left) (held (numbers-at u) (memory-at u)) (step .1) (step .0)
+      (subst₂ (λ a b. Same L B few N (a .left) (held a b) (numbers-at u .left) (held (numbers-at u) (memory-at u))) is held-is rest)
 
   -- the value at the beginning stays the same
   pub kept : {s u : Stage} {cs : List Call} {gs : List Removal} → Runs A B s cs u gs → Given N gs → Tames L B few N (numbers-at s .left) → Fitting A B (numbers-at u) (memory-at u)
       → Same L B few N (numbers-at s .left) (held (numbers-at s) (memory-at s)) (numbers-at u .left) (held (numbers-at u) (memory-at u))
   kept {s} done g t f = same-refl L B few N (numbers-at s .left) (held (numbers-at s) (memory-at s)) (fits-of L B few N (numbers-at s) (memory-at s) f t) (f .initial)
   kept (refused f e run) g t last = kept run g t last
-  kept {u} (removes {r} {m} p l w e run) g t last =
+  kept {u} (removes {r} {s} {m} {after} p l w e o run) g t last =
       let k = taken A B r m p l w e in
       let step = remove-step L B few N r m (k .fits) t p (k .here) l (g (record { place = p; process = l }) (inl refl)) w in
-      onward r m (left-without (r .left) p) (removed-graph A B r m p l) w u (step .0) (kept run (λ d i. g d (inr i)) (step .1) last)
-  kept {u} (trims {r} {m} w numbers marks e mk run) g t last =
+      let tames : Tames L B few N (s .left) = λ x h. step .1 x (left-from s (left-without (r .left) p) x (ap (λ y. y .left) (o .remainder)) h) in
+      onward r m (left-without (r .left) p) (removed-graph A B r m p l) w s after u (o .remainder) (o .memory) (step .0) (kept run (λ d i. g d (inr i)) tames last)
+  kept {u} (trims {r} {s} {m} {after} w numbers given e o run) g t last =
       let f = fitting A B r m (neither (fit-fault A B r m) (or-else (room-fault (r .nodes) (r .edges) w) (buffer-fault r numbers)) e .0) in
-      onward r m (r .left) (trim-graph marks (held r m)) w u (trim-step L B few N r m f t marks mk w) (kept run g t last)
-  kept {u} (folds {r} {m} w lower upper R Q e lo up run) g t last =
+      let tames : Tames L B few N (s .left) = λ x h. t x (left-from s (r .left) x (ap (λ y. y .left) (o .remainder)) h) in
+      onward r m (r .left) (trim-graph (o .marks) (held r m)) w s after u (o .remainder) (o .memory) (trim-step L B few N r m f t (o .marks) (o .reached) w) (kept run g tames last)
+  kept {u} (folds {r} {s} {m} {after} w lower upper low high e o run) g t last =
       let f = fitting A B r m (neither (fit-fault A B r m) (or-else (room-fault (r .nodes) (r .edges) w) (or-else (buffer-fault r lower) (buffer-fault r upper))) e .0) in
-      onward r m (r .left) (fold-graph R Q (held r m)) w u (fold-step L B few N r m f t R Q lo up w) (kept run g t last)
+      let tames : Tames L B few N (s .left) = λ x h. t x (left-from s (r .left) x (ap (λ y. y .left) (o .remainder)) h) in
+      onward r m (r .left) (fold-graph (o .lowers) (o .uppers) (held r m)) w s after u (o .remainder) (o .memory) (fold-step L B few N r m f t (o .lowers) (o .uppers) (o .lowest) (o .highest) w) (kept run g tames last)
   kept (closes {r} {m} e) g t f = same-refl L B few N (r .left) (held r m) (fits-of L B few N r m f t) (f .initial)
 
   -- a place that is removed was left
   pub was-left : {s u : Stage} {cs : List Call} {gs : List Removal} → Runs A B s cs u gs → (d : Removal) → In d gs → left-places (numbers-at s .left) (d .place) ≡ true
   was-left done d i = absurd i
   was-left (refused f e run) d i = was-left run d i
-  was-left (removes {r} {m} p l w e run) d (inl same) = subst (λ x. left-places (r .left) x ≡ true) (sym (ap (λ y. y .place) same)) (taken A B r m p l w e .here)
-  was-left (removes {r} {m} p l w e run) d (inr i) =
-      without-left (left-places (r .left)) p (d .place) (subst (λ z. z (d .place) ≡ true) (rest-of r m p (taken A B r m p l w e .fits) (taken A B r m p l w e .here)) (was-left run d i)) .0
-  was-left (trims w numbers marks e mk run) d i = was-left run d i
-  was-left (folds w lower upper R Q e lo up run) d i = was-left run d i
+  was-left (removes {r} {m} p l w e o run) d (inl same) = subst (λ x. left-places (r .left) x ≡ true) (sym (ap (λ y. y .place) same)) (taken A B r m p l w e .here)
+  was-left (removes {r} {s} {m} p l w e o run) d (inr i) =
+      let h = left-from s (left-without (r .left) p) (d .place) (ap (λ y. y .left) (o .remainder)) (was-left run d i) in
+      without-left (left-places (r .left)) p (d .place) (subst (λ z. z (d .place) ≡ true) (rest-of r m p (taken A B r m p l w e .fits) (taken A B r m p l w e .here)) h) .0
+  was-left (trims {r} {s} w numbers given e o run) d i = left-from s (r .left) (d .place) (ap (λ y. y .left) (o .remainder)) (was-left run d i)
+  was-left (folds {r} {s} w lower upper low high e o run) d i = left-from s (r .left) (d .place) (ap (λ y. y .left) (o .remainder)) (was-left run d i)
   was-left (closes e) d i = absurd i
 
   -- and is removed once
   pub once : {s u : Stage} {cs : List Call} {gs : List Removal} → Runs A B s cs u gs → (c d : Removal) → In c gs → In d gs → c .place ≡ d .place → c .process ≡ d .process
   once done c d i j e = absurd i
   once (refused f h run) c d i j e = once run c d i j e
-  once (removes {r} {m} p l w h run) c d (inl a) (inl b) e = ap (λ y. y .process) (a ∙ sym b)
-  once (removes {r} {m} p l w h run) c d (inl a) (inr j) e = absurd (gone r m p (taken A B r m p l w h .fits) (taken A B r m p l w h .here) d (was-left run d j) (sym e ∙ ap (λ y. y .place) a))
-  once (removes {r} {m} p l w h run) c d (inr i) (inl b) e = absurd (gone r m p (taken A B r m p l w h .fits) (taken A B r m p l w h .here) c (was-left run c i) (e ∙ ap (λ y. y .place) b))
-  once (removes p l w h run) c d (inr i) (inr j) e = once run c d i j e
-  once (trims w numbers marks h mk run) c d i j e = once run c d i j e
-  once (folds w lower upper R Q h lo up run) c d i j e = once run c d i j e
+  once (removes p l w h o run) c d (inl a) (inl b) e = ap (λ y. y .process) (a ∙ sym b)
+  once (removes {r} {s} {m} p l w h o run) c d (inl a) (inr j) e =
+      absurd (gone r m p (taken A B r m p l w h .fits) (taken A B r m p l w h .here) d (left-from s (left-without (r .left) p) (d .place) (ap (λ y. y .left) (o .remainder)) (was-left run d j)) (sym e ∙ ap (λ y. y .place) a))
+  once (removes {r} {s} {m} p l w h o run) c d (inr i) (inl b) e =
+      absurd (gone r m p (taken A B r m p l w h .fits) (taken A B r m p l w h .here) c (left-from s (left-without (r .left) p) (c .place) (ap (λ y. y .left) (o .remainder)) (was-left run c i)) (e ∙ ap (λ y. y .place) b))
+  once (removes p l w h o run) c d (inr i) (inr j) e = once run c d i j e
+  once (trims w numbers given h o run) c d i j e = once run c d i j e
+  once (folds w lower upper low high h o run) c d i j e = once run c d i j e
   once (closes h) c d i j e = absurd i
 
   -- every process that was taken in passes the checks
   pub passed : {s u : Stage} {cs : List Call} {gs : List Removal} → Runs A B s cs u gs → (d : Removal) → In d gs → process-fault A (d .process) ≡ None
   passed done d i = absurd i
   passed (refused f e run) d i = passed run d i
-  passed (removes {r} {m} p l w e run) d (inl same) = subst (λ k. process-fault A k ≡ None) (sym (ap (λ y. y .process) same)) (taken A B r m p l w e .passes)
-  passed (removes p l w e run) d (inr i) = passed run d i
-  passed (trims w numbers marks e mk run) d i = passed run d i
-  passed (folds w lower upper R Q e lo up run) d i = passed run d i
+  passed (removes {r} {m} p l w e o run) d (inl same) = subst (λ k. process-fault A k ≡ None) (sym (ap (λ y. y .process) same)) (taken A B r m p l w e .passes)
+  passed (removes p l w e o run) d (inr i) = passed run d i
+  passed (trims w numbers given e o run) d i = passed run d i
+  passed (folds w lower upper low high e o run) d i = passed run d i
   passed (closes e) d i = absurd i
 
   -- what leads to something that fits fits
   pub fits-at : {s u : Stage} {cs : List Call} {gs : List Removal} → Runs A B s cs u gs → Fitting A B (numbers-at u) (memory-at u) → Fitting A B (numbers-at s) (memory-at s)
   fits-at done f = f
   fits-at (refused g e run) f = fits-at run f
-  fits-at (removes {r} {m} p l w e run) f = taken A B r m p l w e .fits
-  fits-at (trims {r} {m} w numbers marks e mk run) f = fitting A B r m (neither (fit-fault A B r m) (or-else (room-fault (r .nodes) (r .edges) w) (buffer-fault r numbers)) e .0)
-  fits-at (folds {r} {m} w lower upper R Q e lo up run) f = fitting A B r m (neither (fit-fault A B r m) (or-else (room-fault (r .nodes) (r .edges) w) (or-else (buffer-fault r lower) (buffer-fault r upper))) e .0)
+  fits-at (removes {r} {m} p l w e o run) f = taken A B r m p l w e .fits
+  fits-at (trims {r} {m} w numbers given e o run) f = fitting A B r m (neither (fit-fault A B r m) (or-else (room-fault (r .nodes) (r .edges) w) (buffer-fault r numbers)) e .0)
+  fits-at (folds {r} {m} w lower upper low high e o run) f = fitting A B r m (neither (fit-fault A B r m) (or-else (room-fault (r .nodes) (r .edges) w) (or-else (buffer-fault r lower) (buffer-fault r upper))) e .0)
   fits-at (closes e) f = f

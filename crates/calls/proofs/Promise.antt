@@ -39,7 +39,8 @@ use Rattle.calls.specs.Process.{process-fault}
 use Rattle.calls.specs.Promise.{places-of, Judged, Given, Passing, Verdict-is-value, Variant-is-judged, One-case, Order-does-not-matter}
 use Rattle.calls.specs.Runs.{Removal, open-at, closed-at}
 use Rattle.calls.specs.declared.remainder.Remainder.{Remainder}
-use Rattle.calls.proofs.Agree.{Agree, agree-formed, agree-fits, agree-solution}
+use Rattle.calls.specs.Equal.{Agree}
+use Rattle.calls.proofs.Agree.{agree-fits, agree-solution}
 use Rattle.calls.proofs.Lists.{tame-all, kept, once, passed, fits-at}
 use Rattle.calls.proofs.Steps.{Tames, fits-of, valid-start, verdict-step}
 use Rattle.calls.proofs.Tested.{tame-from, Fitting, fitting-true}

@@ -38,7 +38,7 @@ use Rattle.calls.specs.Runs.{Call, remove, close, Runs, removes, open-at, clos
 use Rattle.calls.specs.Runs as runs
 use Rattle.calls.specs.declared.remainder.Remainder.{Remainder}
 use Rattle.calls.proofs.Again.{Tidy, fits-again}
-use Rattle.calls.proofs.Agree.{Agree}
+use Rattle.calls.specs.Equal.{Agree}
 use Rattle.calls.proofs.Opened.{formula-formed, formula-tidy}
 use Rattle.calls.proofs.Steps.{Tames, fits-of, removed-fits, removed-initial, rest-tame, rest-left}
 use Rattle.calls.proofs.Tested.{tame-from, Fitting, fitting-true}
@@ -131,7 +131,7 @@ module _ {A : Algebra} (L : Laws A) (B : Book) (few : B .places ≤ 8) (N : Netw
       record {
         last = rest .last;
         holding = rest .holding;
-        run = removes p (N p) (room-for Q) (accepted r m d p (names .0) (s .0)) (rest .run);
+        run = removes p (N p) (room-for Q) (accepted r m d p (names .0) (s .0)) (record { remainder = refl; memory = refl }) (rest .run);
         fit = rest .fit;
         none-left = rest .none-left;
       }

@@ -13,7 +13,7 @@ use Rattle.records.specs.declared.Node.{Node}
 use Rattle.meaning.specs.Graph.{Graph}
 use Rattle.meaning.specs.Quotient.{gathered}
 use Rattle.calls.specs.Memory.{Memory, no-node, node-in, edges-of, held, edges-before, node-row, node-rows, edge-rows, over, written, numbers-of}
-use Rattle.calls.proofs.Agree.{Agree}
+use Rattle.calls.specs.Equal.{Agree}
 
 -- drop and take at the seam of an append
 drop-seam : {X : Type 0} (xs ys : List X) → drop (length xs) (xs ++ ys) ≡ ys

@@ -4,7 +4,9 @@ pub mod Left
 pub mod Fit
 pub mod Process
 pub mod Opening
+pub mod Equal
 pub mod Outcome
+pub mod Exist
 pub mod Runs
 pub mod Promise
 pub mod NotEmpty

@@ -73,7 +73,12 @@ remove-fault A B r m p l t =
     (or-else (process-fault A l)
     (room-fault (removed-graph A B r m p l .nodes) (length (edge-rows (removed-graph A B r m p l))) t)))
 
--- TRIM: the marks say which nodes can be reached
+-- what an accepted removal leaves: the remainder, and all of the target memory
+pub record Removed (A : Algebra) (B : Book) (r : Remainder) (m : Memory) (p : ℕ) (l : Lts) (t : Memory) (left : Remainder) (after : Memory) : Type 0 where
+  pub remainder : left ≡ numbers-of (removed-graph A B r m p l) (left-without (r .left) p)
+  pub memory : after ≡ written (removed-graph A B r m p l) t
+
+-- TRIM
 abbrev pub trim-fault : Algebra → Book → Remainder → Memory → Memory → List ℕ → Option Fault
 trim-fault A B r m t numbers = or-else (fit-fault A B r m) (or-else (room-fault (r .nodes) (r .edges) t) (buffer-fault r numbers))
 
@@ -81,7 +86,15 @@ trim-fault A B r m t numbers = or-else (fit-fault A B r m) (or-else (room-fault 
 abbrev pub new-numbers : (ℕ → Bool) → Remainder → List ℕ
 new-numbers marks r = map (λ q. cond (marks q) (rank marks q + 1) 0) (counting 0 (r .nodes))
 
--- FOLD: R solves the lower reading and Q the upper one
+-- what an accepted trim leaves: the graph of the nodes that can be reached, and their numbers in the buffer
+pub record Trimmed (r : Remainder) (m t : Memory) (numbers : List ℕ) (left : Remainder) (after : Memory) (given : List ℕ) : Type 0 where
+  pub marks : ℕ → Bool
+  pub reached : Marks (held r m) marks
+  pub remainder : left ≡ numbers-of (trim-graph marks (held r m)) (r .left)
+  pub memory : after ≡ written (trim-graph marks (held r m)) t
+  pub buffer : given ≡ over (new-numbers marks r) numbers
+
+-- FOLD
 abbrev pub fold-fault : Algebra → Book → Remainder → Memory → Memory → List ℕ → List ℕ → Option Fault
 fold-fault A B r m t lower upper =
     or-else (fit-fault A B r m) (or-else (room-fault (r .nodes) (r .edges) t) (or-else (buffer-fault r lower) (buffer-fault r upper)))
@@ -95,6 +108,17 @@ Upper A B G Q = Solution A (reading-system B (A .highest) G) Q
 -- the values of the nodes at the front of a buffer
 abbrev pub values-over : (ℕ → ℕ) → Remainder → List ℕ → List ℕ
 values-over R r buffer = over (map R (counting 0 (r .nodes))) buffer
+
+-- what an accepted fold leaves: the folded graph, and the values of both readings in the buffers
+pub record Folded (A : Algebra) (B : Book) (r : Remainder) (m t : Memory) (lower upper : List ℕ) (left : Remainder) (after : Memory) (low high : List ℕ) : Type 0 where
+  pub lowers : ℕ → ℕ
+  pub uppers : ℕ → ℕ
+  pub lowest : Lower A B (held r m) lowers
+  pub highest : Upper A B (held r m) uppers
+  pub remainder : left ≡ numbers-of (fold-graph lowers uppers (held r m)) (r .left)
+  pub memory : after ≡ written (fold-graph lowers uppers (held r m)) t
+  pub lower-buffer : low ≡ values-over lowers r lower
+  pub upper-buffer : high ≡ values-over uppers r upper
 
 -- CLOSE: no place is left, or the initial node is fixed
 abbrev pub is-fixed : Kind → Bool

@@ -1,6 +1,5 @@
 -- Lists of calls: what they leave, call after call, refused ones included.
 use mathlib.Core.Path.{_≡_}
-use mathlib.Core.Bool.{Bool}
 use mathlib.Core.List.{List, [], _∷_}
 use Prim.Native.Nat.{ℕ}
 use Rattle.std.specs.declared.option.Option.{Option}
@@ -8,12 +7,9 @@ use Rattle.std.specs.declared.option.Option.the-variants.{Some, None}
 use Rattle.fault.specs.declared.Fault.{Fault}
 use Rattle.process.specs.Lts.{Lts}
 use Rattle.scale.specs.Algebra.{Algebra}
-use Rattle.meaning.specs.Fold.{fold-graph}
 use Rattle.meaning.specs.Network.{Book}
-use Rattle.meaning.specs.Trim.{Marks, trim-graph}
-use Rattle.calls.specs.Left.{left-without}
-use Rattle.calls.specs.Memory.{Memory, held, written, numbers-of}
-use Rattle.calls.specs.Outcome.{removed-graph, remove-fault, trim-fault, fold-fault, close-fault, Lower, Upper}
+use Rattle.calls.specs.Memory.{Memory}
+use Rattle.calls.specs.Outcome.{remove-fault, Removed, trim-fault, Trimmed, fold-fault, Folded, close-fault}
 use Rattle.calls.specs.declared.remainder.Remainder.{Remainder}
 
 -- A call with its own arguments: a place and a process, target memories, buffers, of any lengths and contents.
@@ -46,13 +42,13 @@ pub data Runs (A : Algebra) (B : Book) : Stage → List Call → Stage → List 
   done : {s : Stage} → Runs A B s [] s []
   refused : {r : Remainder} {m : Memory} {c : Call} {cs : List Call} {s : Stage} {gs : List Removal} (f : Fault) → refusal A B r m c ≡ Some f
       → Runs A B (open-at r m) cs s gs → Runs A B (open-at r m) (c ∷ cs) s gs
-  removes : {r : Remainder} {m : Memory} {cs : List Call} {s : Stage} {gs : List Removal} (p : ℕ) (l : Lts) (t : Memory) → remove-fault A B r m p l t ≡ None
-      → Runs A B (open-at (numbers-of (removed-graph A B r m p l) (left-without (r .left) p)) (written (removed-graph A B r m p l) t)) cs s gs
-      → Runs A B (open-at r m) (remove p l t ∷ cs) s (record { place = p; process = l } ∷ gs)
-  trims : {r : Remainder} {m : Memory} {cs : List Call} {s : Stage} {gs : List Removal} (t : Memory) (numbers : List ℕ) (marks : ℕ → Bool) → trim-fault A B r m t numbers ≡ None → Marks (held r m) marks
-      → Runs A B (open-at (numbers-of (trim-graph marks (held r m)) (r .left)) (written (trim-graph marks (held r m)) t)) cs s gs
-      → Runs A B (open-at r m) (trim t numbers ∷ cs) s gs
-  folds : {r : Remainder} {m : Memory} {cs : List Call} {s : Stage} {gs : List Removal} (t : Memory) (lower upper : List ℕ) (R Q : ℕ → ℕ) → fold-fault A B r m t lower upper ≡ None → Lower A B (held r m) R → Upper A B (held r m) Q
-      → Runs A B (open-at (numbers-of (fold-graph R Q (held r m)) (r .left)) (written (fold-graph R Q (held r m)) t)) cs s gs
-      → Runs A B (open-at r m) (fold t lower upper ∷ cs) s gs
+  removes : {r s : Remainder} {m after : Memory} {cs : List Call} {u : Stage} {gs : List Removal} (p : ℕ) (l : Lts) (t : Memory)
+      → remove-fault A B r m p l t ≡ None → Removed A B r m p l t s after
+      → Runs A B (open-at s after) cs u gs → Runs A B (open-at r m) (remove p l t ∷ cs) u (record { place = p; process = l } ∷ gs)
+  trims : {r s : Remainder} {m after : Memory} {cs : List Call} {u : Stage} {gs : List Removal} (t : Memory) (numbers given : List ℕ)
+      → trim-fault A B r m t numbers ≡ None → Trimmed r m t numbers s after given
+      → Runs A B (open-at s after) cs u gs → Runs A B (open-at r m) (trim t numbers ∷ cs) u gs
+  folds : {r s : Remainder} {m after : Memory} {cs : List Call} {u : Stage} {gs : List Removal} (t : Memory) (lower upper low high : List ℕ)
+      → fold-fault A B r m t lower upper ≡ None → Folded A B r m t lower upper s after low high
+      → Runs A B (open-at s after) cs u gs → Runs A B (open-at r m) (fold t lower upper ∷ cs) u gs
   closes : {r : Remainder} {m : Memory} → close-fault A B r m ≡ None → Runs A B (open-at r m) (close ∷ []) (closed-at r m) []

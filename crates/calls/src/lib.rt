@@ -3,6 +3,8 @@
 mod remainder;
 
 ghost use Rattle.calls.specs.Again.{Fits-again};
+ghost use Rattle.calls.specs.Equal.{Equal-below};
+ghost use Rattle.calls.specs.Exist.{Outcomes-exist};
 ghost use Rattle.calls.specs.NotEmpty.{Every-order-reaches};
 ghost use Rattle.calls.specs.Promise.{Verdict-is-value, Variant-is-judged, Order-does-not-matter};
 pub use remainder::Remainder;
@@ -30,4 +32,14 @@ pub fn every_order_reaches_a_verdict()
 // What an accepted call leaves fits again.
 pub fn accepted_calls_fit_again()
     ensures { λ _. ⌜ Fits-again ⌝ }
+{}
+
+// Every accepted call has an outcome.
+pub fn accepted_calls_have_outcomes()
+    ensures { λ _. ⌜ Outcomes-exist ⌝ }
+{}
+
+// What stands in memory behind a graph's nodes does not matter.
+pub fn equal_graphs_have_equal_values()
+    ensures { λ _. ⌜ Equal-below ⌝ }
 {}
