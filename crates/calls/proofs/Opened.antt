@@ -16,15 +16,16 @@ use Rattle.records.specs.declared.Edge.{Edge}
 use Rattle.records.specs.declared.Guard.the-variants.{Plain, By}
 use Rattle.records.specs.declared.Kind.{Kind}
 use Rattle.records.specs.declared.Kind.the-variants.{AnyOf, AllOf, Fixed}
+use Rattle.records.specs.declared.Rule.{Rule}
 use Rattle.scale.specs.Algebra.{Algebra, Laws, Value}
-use Rattle.format.specs.Layout.{header-of, kind-byte, node-row, edge-row, rule-label, rule-result, rule-asks, rule-row, block-sign}
+use Rattle.format.specs.Layout.{header-of, kind-byte, node-row, edge-row, rule-label, rule-asks, rule-row, block-sign}
 use Rattle.format.specs.declared.file.FormulaEdge.{FormulaEdge}
 use Rattle.casefile.specs.WellFormed.{WellFormed, Fine-node, Fine-edge, Fine-rule, In-a-row}
 use Rattle.meaning.specs.Graph.{Graph, Guards, Edge-fits, Well-formed}
 use Rattle.meaning.specs.Member.{In}
 use Rattle.meaning.specs.Network.{Book, counts, rule-of, idle-rule}
-use Rattle.meaning.specs.Quotient.{kept, gathered}
-use Rattle.meaning.proofs.Members.{of-map, of-kept, of-gathered}
+use Rattle.meaning.specs.Quotient.{gathered}
+use Rattle.meaning.proofs.Members.{of-map, of-gathered}
 use Rattle.calls.specs.Left.{left-places, all-left}
 use Rattle.calls.specs.Opening.{book-of, rules-for, opened-edge, formula-graph}
 use Rattle.calls.specs.Promise.{places-of}
@@ -36,6 +37,15 @@ of-counting : (a n k : ℕ) → In k (counting a n) → (a ≤ k) × (k < a + n)
 of-counting a zero k h = absurd h
 of-counting a (suc n) k (inl e) = (omega arith, omega arith)
 of-counting a (suc n) k (inr h) = let r = of-counting (a + 1) n k h in (omega (arith, r .0), omega (arith, r .1))
+
+of-rules : (label n : ℕ) (rs : List Rule) (k : ℕ) → In k (rules-for label n rs) → (n ≤ k) × (k < n + length rs)
+of-rules label n [] k h = absurd h
+of-rules label n (r ∷ rs) k h = go (eqb (r .result) label) (of-rules label (n + 1) rs k) h
+  where
+    go : (b : Bool) → (In k (rules-for label (n + 1) rs) → (n + 1 ≤ k) × (k < n + 1 + length rs)) → In k (cond b (n ∷ rules-for label (n + 1) rs) (rules-for label (n + 1) rs)) → (n ≤ k) × (k < n + suc (length rs))
+    go true later (inl e) = (omega arith, omega arith)
+    go true later (inr i) = let r = later i in (omega (arith, r .0), omega (arith, r .1))
+    go false later i = let r = later i in (omega (arith, r .0), omega (arith, r .1))
 
 -- the code of a kind
 fixed-code : (c : ℕ) → c ≤ 2 → kind-of c ≡ Fixed → c ≡ 2
@@ -104,7 +114,7 @@ module _ {A : Algebra} (L : Laws A) (n : ℕ) (bs : List ℕ) (w : WellFormed A 
 
   -- an edge that comes of a formula edge
   opened-fits : (q k : ℕ) (e : Edge) → q < header-of bs .nodes → node-row bs (header-of bs) q .first ≤ k → k < node-row bs (header-of bs) q .first + node-row bs (header-of bs) q .count
-      → In e (opened-edge A bs (edge-row bs (header-of bs) k)) → Edge-fits A (book-of bs) (places-of bs) (formula-graph A bs) q e
+      → In e (opened-edge A (book-of bs .rules) (edge-row bs (header-of bs) k)) → Edge-fits A (book-of bs) (places-of bs) (formula-graph A bs) q e
   opened-fits q k e q-in low high h =
       let few : k < header-of bs .edges = omega (arith, w .nodes q q-in .ends) in
       let fine = w .edges k few in
@@ -115,16 +125,15 @@ module _ {A : Algebra} (L : Laws A) (n : ℕ) (bs : List ℕ) (w : WellFormed A 
       λ d a b g. record { weight = rw a (L .highest-value); target = rw b (fine .target); block = rw b rise; guard = g } in
       ⊎-elim
       (λ plain.
-      let one = subst (λ b. In e (cond b (record { guard = Plain; weight = A .highest; target = edge-row bs (header-of bs) k .target } ∷ []) (map (λ r. record { guard = By r; weight = A .highest; target = edge-row bs (header-of bs) k .target }) (rules-for bs (edge-row bs (header-of bs) k .label))))) plain h in
+      let one = subst (λ b. In e (cond b (record { guard = Plain; weight = A .highest; target = edge-row bs (header-of bs) k .target } ∷ []) (map (λ r. record { guard = By r; weight = A .highest; target = edge-row bs (header-of bs) k .target }) (rules-for (edge-row bs (header-of bs) k .label) 0 (book-of bs .rules))))) plain h in
       ⊎-elim
       (λ (is : e ≡ record { guard = Plain; weight = A .highest; target = edge-row bs (header-of bs) k .target }). good e (ap (λ (d : Edge). d .weight) is) (ap (λ (d : Edge). d .target) is) (rw (ap (λ (d : Edge). d .guard) is) tt))
       (λ no-more. absurd no-more)
       one)
       (λ ruled.
-      let some = subst (λ b. In e (cond b (record { guard = Plain; weight = A .highest; target = edge-row bs (header-of bs) k .target } ∷ []) (map (λ r. record { guard = By r; weight = A .highest; target = edge-row bs (header-of bs) k .target }) (rules-for bs (edge-row bs (header-of bs) k .label))))) ruled h in
-      let r = of-map (λ r. record { guard = By r; weight = A .highest; target = edge-row bs (header-of bs) k .target }) e (rules-for bs (edge-row bs (header-of bs) k .label)) some in
-      let among = of-kept (λ r. eqb (rule-result bs (header-of bs) r) (edge-row bs (header-of bs) k .label)) (r .0) (counting 0 (header-of bs .rules)) (r .1) .0 in
-      let below : r .0 < header-of bs .rules = omega (arith, of-counting 0 (header-of bs .rules) (r .0) among .1) in
+      let some = subst (λ b. In e (cond b (record { guard = Plain; weight = A .highest; target = edge-row bs (header-of bs) k .target } ∷ []) (map (λ r. record { guard = By r; weight = A .highest; target = edge-row bs (header-of bs) k .target }) (rules-for (edge-row bs (header-of bs) k .label) 0 (book-of bs .rules))))) ruled h in
+      let r = of-map (λ r. record { guard = By r; weight = A .highest; target = edge-row bs (header-of bs) k .target }) e (rules-for (edge-row bs (header-of bs) k .label) 0 (book-of bs .rules)) some in
+      let below : r .0 < header-of bs .rules = omega (arith, of-rules (edge-row bs (header-of bs) k .label) 0 (book-of bs .rules) (r .0) (r .1) .1, length-map-counting (rule-row bs (header-of bs)) 0 (header-of bs .rules)) in
       good e (ap (λ (d : Edge). d .weight) (r .2)) (ap (λ (d : Edge). d .target) (r .2)) (rw (ap (λ (d : Edge). d .guard) (r .2)) (guards (r .0) below)))
       (cases-bool (eqb (edge-row bs (header-of bs) k .label) none))
 
@@ -134,13 +143,13 @@ module _ {A : Algebra} (L : Laws A) (n : ℕ) (bs : List ℕ) (w : WellFormed A 
     blocks = λ q lt. rw (length-map-counting (block-sign bs (header-of bs)) 0 (header-of bs .blocks)) (w .nodes q lt .block);
     fixed = λ q lt e. w .nodes q lt .fixed (fixed-code (kind-byte bs (header-of bs) q) (w .nodes q lt .kind) e) .0;
     edges = λ q lt e h.
-        let o = of-gathered (λ k. opened-edge A bs (edge-row bs (header-of bs) k)) e (counting (node-row bs (header-of bs) q .first) (node-row bs (header-of bs) q .count)) h in
+        let o = of-gathered (λ k. opened-edge A (book-of bs .rules) (edge-row bs (header-of bs) k)) e (counting (node-row bs (header-of bs) q .first) (node-row bs (header-of bs) q .count)) h in
         let r = of-counting (node-row bs (header-of bs) q .first) (node-row bs (header-of bs) q .count) (o .0) (o .1) in
         opened-fits q (o .0) e lt (r .0) (r .1) (o .2);
   }
 
   pub formula-tidy : Tidy (formula-graph A bs)
   formula-tidy = record {
-    fixed = λ q lt e. ap (λ k. gathered (λ x. opened-edge A bs (edge-row bs (header-of bs) x)) (counting (node-row bs (header-of bs) q .first) k)) (w .nodes q lt .fixed (fixed-code (kind-byte bs (header-of bs) q) (w .nodes q lt .kind) e) .1);
+    fixed = λ q lt e. ap (λ k. gathered (λ x. opened-edge A (book-of bs .rules) (edge-row bs (header-of bs) x)) (counting (node-row bs (header-of bs) q .first) k)) (w .nodes q lt .fixed (fixed-code (kind-byte bs (header-of bs) q) (w .nodes q lt .kind) e) .1);
     other = λ q lt ne. w .nodes q lt .other (other-code (kind-byte bs (header-of bs) q) ne);
   }

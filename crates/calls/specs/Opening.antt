@@ -3,17 +3,17 @@ use mathlib.Core.Bool.{cond}
 use mathlib.Core.List.{List, [], _∷_, map}
 use Prim.Native.Nat.{ℕ, _+_}
 use lib.Dec.{eqb}
-use lib.ListN.{length}
 use Rattle.std.specs.Iters.{counting}
 use Rattle.records.specs.Codes.{none}
 use Rattle.records.specs.declared.Edge.{Edge}
 use Rattle.records.specs.declared.Guard.the-variants.{Plain, By}
+use Rattle.records.specs.declared.Rule.{Rule}
 use Rattle.scale.specs.Algebra.{Algebra}
-use Rattle.format.specs.Layout.{header-of, rule-row, rule-result, block-sign, node-row, edge-row}
+use Rattle.format.specs.Layout.{header-of, rule-row, block-sign, node-row, edge-row}
 use Rattle.format.specs.declared.file.FormulaEdge.{FormulaEdge}
 use Rattle.meaning.specs.Graph.{Graph}
 use Rattle.meaning.specs.Network.{Book}
-use Rattle.meaning.specs.Quotient.{kept, gathered}
+use Rattle.meaning.specs.Quotient.{gathered}
 
 -- places, rules and blocks of the case
 abbrev pub book-of : List ℕ → Book
@@ -21,17 +21,18 @@ book-of bs =
     let h = header-of bs in
     record { places = h .places; rules = map (rule-row bs h) (counting 0 (h .rules)); signs = map (block-sign bs h) (counting 0 (h .blocks)) }
 
--- the rules with that result, in their order
-abbrev pub rules-for : List ℕ → ℕ → List ℕ
-rules-for bs label = kept (λ r. eqb (rule-result bs (header-of bs) r) label) (counting 0 (header-of bs .rules))
+-- the numbers of the rules with that result, in their order; the first of the list has number n
+abbrev pub rules-for : ℕ → ℕ → List Rule → List ℕ
+rules-for label n [] = []
+rules-for label n (r ∷ rs) = cond (eqb (r .result) label) (n ∷ rules-for label (n + 1) rs) (rules-for label (n + 1) rs)
 
 -- what a formula edge becomes: a plain edge, or one edge for each rule with its label for result; weights
 -- are highest
-abbrev pub opened-edge : Algebra → List ℕ → FormulaEdge → List Edge
-opened-edge A bs e =
+abbrev pub opened-edge : Algebra → List Rule → FormulaEdge → List Edge
+opened-edge A rules e =
     cond (eqb (e .label) none)
     (record { guard = Plain; weight = A .highest; target = e .target } ∷ [])
-    (map (λ r. record { guard = By r; weight = A .highest; target = e .target }) (rules-for bs (e .label)))
+    (map (λ r. record { guard = By r; weight = A .highest; target = e .target }) (rules-for (e .label) 0 rules))
 
 -- the formula's graph: its nodes, each with its own edges so opened, in their order
 abbrev pub formula-graph : Algebra → List ℕ → Graph
@@ -43,5 +44,5 @@ formula-graph A bs =
       kind = λ q. node-row bs h q .kind;
       block = λ q. node-row bs h q .block;
       value = λ q. node-row bs h q .value;
-      edges = λ q. gathered (λ e. opened-edge A bs (edge-row bs h e)) (counting (node-row bs h q .first) (node-row bs h q .count));
+      edges = λ q. gathered (λ e. opened-edge A (book-of bs .rules) (edge-row bs h e)) (counting (node-row bs h q .first) (node-row bs h q .count));
     }
