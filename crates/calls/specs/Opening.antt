@@ -11,15 +11,18 @@ use Rattle.records.specs.declared.Rule.{Rule}
 use Rattle.scale.specs.Algebra.{Algebra}
 use Rattle.format.specs.Layout.{header-of, rule-row, block-sign, node-row, edge-row}
 use Rattle.format.specs.declared.file.FormulaEdge.{FormulaEdge}
+use Rattle.format.specs.declared.header.Header.{Header}
 use Rattle.meaning.specs.Graph.{Graph}
 use Rattle.meaning.specs.Network.{Book}
 use Rattle.meaning.specs.Quotient.{gathered}
 
--- places, rules and blocks of the case
+-- places, rules and blocks of a case, read by a header
+abbrev pub book-in : List ℕ → Header → Book
+book-in bs h = record { places = h .places; rules = map (rule-row bs h) (counting 0 (h .rules)); signs = map (block-sign bs h) (counting 0 (h .blocks)) }
+
+-- those of the case by its own header
 abbrev pub book-of : List ℕ → Book
-book-of bs =
-    let h = header-of bs in
-    record { places = h .places; rules = map (rule-row bs h) (counting 0 (h .rules)); signs = map (block-sign bs h) (counting 0 (h .blocks)) }
+book-of bs = book-in bs (header-of bs)
 
 -- the numbers of the rules with that result, in their order; the first of the list has number n
 abbrev pub rules-for : ℕ → ℕ → List Rule → List ℕ

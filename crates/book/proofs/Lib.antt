@@ -1,0 +1,2 @@
+-- Lemmas on the rule book.
+pub mod Turns

@@ -1,0 +1,3 @@
+-- The definitions that the contracts of the rule book cite.
+pub mod Parts
+pub mod Model
