@@ -1,4 +1,6 @@
 // The account of a case: all that a person reads of it.
+#![tactic(auto)]
+
 mod input;
 mod sections;
 

@@ -1,4 +1,6 @@
 // The check of a process before it is taken into a formula: its shape first, then its transitions.
+#![tactic(auto)]
+
 ghost use Rattle.std.specs.Prelude.{length, nat_lt};
 ghost use Rattle.std.specs.List.{slice_get};
 ghost use Rattle.fault.specs.First.{flag, earliest, Passes};

@@ -1,5 +1,7 @@
 // What every call of the engine does, and the promise that the order of calls does not matter.
 // Each function here stands for one part of the promise: its contract is the statement.
+#![tactic(auto)]
+
 mod remainder;
 
 ghost use Rattle.calls.specs.Again.{FitsAgain};

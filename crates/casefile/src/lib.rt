@@ -1,4 +1,6 @@
 // The checks of a case file: why one is refused, and what stands in one that is not.
+#![tactic(auto)]
+
 mod checks;
 mod header_check;
 mod table_checks;

@@ -1,4 +1,6 @@
 // Refusals: every way in which a call can say no, with its number, layer and positions.
+#![tactic(auto)]
+
 ghost use Rattle.std.specs.Prelude.{◌≡◌, IfOk, string_bytes};
 ghost use Rattle.fault.specs.Fault.{number, layer, first, second, byte_in_table};
 ghost use Rattle.fault.specs.Line.{refused_line};

@@ -1,4 +1,6 @@
 // Whether a remainder, a rule book and a pair of memories belong together.
+#![tactic(auto)]
+
 mod guards;
 mod view;
 

@@ -1,4 +1,6 @@
 // The format of a case file: where everything stands in its bytes. Whether the bytes are right is not asked here.
+#![tactic(auto)]
+
 mod bytes;
 mod file;
 mod header;

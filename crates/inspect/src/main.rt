@@ -1,4 +1,6 @@
 // Prints the account of the case file on standard input, or the line of its refusal.
+#![tactic(auto)]
+
 use account::{MOST, report};
 use std::io;
 use std::io::Read;

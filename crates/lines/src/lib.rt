@@ -1,4 +1,6 @@
 // Text on the parts of a case: a line for each, and lines gathered.
+#![tactic(auto)]
+
 mod digits;
 mod parts;
 mod pieces;

@@ -1,4 +1,6 @@
 // The lines that a session prints, one for each accepted call.
+#![tactic(auto)]
+
 ghost use Rattle.std.specs.Prelude.{◌≡◌, IfOk, string_bytes};
 ghost use Rattle.listing.specs.Listing.{open_line, remove_line};
 

@@ -1,5 +1,7 @@
 // What a verdict means: the value of a formula on a network of processes, and what is proved of it.
 // Each function here stands for one theorem: its contract is the statement.
+#![tactic(auto)]
+
 ghost use Rattle.meaning.specs.Known.{KnownCases};
 ghost use Rattle.meaning.specs.Theorems.{ValueExists, ValueUnique, ValueStrong, ReadingExists, ReadingUnique, ReadingsBound, CutToVariant, RemovalKeeps, TrimKeeps, FoldKeeps};
 

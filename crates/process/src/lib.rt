@@ -1,4 +1,6 @@
 // Processes: labelled transition systems that answer four questions.
+#![tactic(auto)]
+
 mod pool;
 mod single_variant;
 

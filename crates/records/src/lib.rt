@@ -1,4 +1,6 @@
 // The records that the file format, the semantics and the engine share.
+#![tactic(auto)]
+
 ghost use Rattle.std.specs.Prelude.{◌≡◌};
 ghost use Rattle.records.specs.Codes.{kind_code, kind_of, sign_code, sign_of, label, takes_part};
 

@@ -1,4 +1,6 @@
 // Says of each case file in its folder whether it is accepted, or why not.
+#![tactic(auto)]
+
 use account::outcome;
 use std::{fs, io};
 

@@ -1,4 +1,6 @@
 // Scales: the values that a verdict can have, with their operations and laws.
+#![tactic(auto)]
+
 mod variants;
 mod yes_no;
 

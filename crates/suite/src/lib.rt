@@ -1,4 +1,6 @@
 // Tests of the crates below, by subject: every test is proved to be safe and to end, and then run.
+#![tactic(auto)]
+
 #[cfg(test)]
 mod faults;
 #[cfg(test)]

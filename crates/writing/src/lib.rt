@@ -1,4 +1,6 @@
 // Writing a graph into a pair of memories: one way for every call that makes a graph.
+#![tactic(auto)]
+
 mod drawing;
 mod edges;
 mod room;
