@@ -16,7 +16,7 @@ IDENT = r"[^\W\d][\w'′₀-₉-]*"
 TOKEN = re.compile(r"(?<![\w'′-])" + IDENT + r"(?![\w'′-])")
 
 # names that would fall together with another of ours
-APART = {"Well-formed": "WellFormedGraph"}
+APART = {"Well-formed": "WellFormedGraph", "bit-or": "bit_of_or", "bit-and": "bit_of_and"}
 
 
 def files(root):

@@ -15,11 +15,11 @@ bit_half v x = ap (λ n. n % 2) (shr-shr x 1 v) ∙ ap (λ n. x / 2 ^ n % 2) (on
 
 -- ---- the bits of each operation
 
-pub bit_or : (v x y : ℕ) → bit v (bit_or x y) ≡ max (bit v x) (bit v y)
-bit_or v x y = rw or_shr (omega (arith, or_step (x / 2 ^ v) (y / 2 ^ v)))
+pub bit_of_or : (v x y : ℕ) → bit v (bit_or x y) ≡ max (bit v x) (bit v y)
+bit_of_or v x y = rw or_shr (omega (arith, or_step (x / 2 ^ v) (y / 2 ^ v)))
 
-pub bit_and : (v x y : ℕ) → bit v (bit_and x y) ≡ min (bit v x) (bit v y)
-bit_and v x y = rw and_shr (omega (arith, and_step (x / 2 ^ v) (y / 2 ^ v)))
+pub bit_of_and : (v x y : ℕ) → bit v (bit_and x y) ≡ min (bit v x) (bit v y)
+bit_of_and v x y = rw and_shr (omega (arith, and_step (x / 2 ^ v) (y / 2 ^ v)))
 
 -- the complement among the numbers of k bits
 pub bit_complement : (v k x : ℕ) → v < k → x < 2 ^ k → bit v (2 ^ k - 1 - x) ≡ 1 - bit v x
@@ -56,19 +56,19 @@ all_bits x y same =
 -- ---- the laws; those with no bound hold of all numbers
 
 pub or_assoc : (x y z : ℕ) → bit_or (bit_or x y) z ≡ bit_or x (bit_or y z)
-or_assoc x y z = all_bits _ _ (λ v. simp bit_or (omega arith))
+or_assoc x y z = all_bits _ _ (λ v. simp bit_of_or (omega arith))
 
 pub and_assoc : (x y z : ℕ) → bit_and (bit_and x y) z ≡ bit_and x (bit_and y z)
-and_assoc x y z = all_bits _ _ (λ v. simp bit_and (omega arith))
+and_assoc x y z = all_bits _ _ (λ v. simp bit_of_and (omega arith))
 
 pub or_and : (x y : ℕ) → bit_or x (bit_and x y) ≡ x
-or_and x y = all_bits _ _ (λ v. simp (bit_or, bit_and) (omega arith))
+or_and x y = all_bits _ _ (λ v. simp (bit_of_or, bit_of_and) (omega arith))
 
 pub and_or : (x y : ℕ) → bit_and x (bit_or x y) ≡ x
-and_or x y = all_bits _ _ (λ v. simp (bit_or, bit_and) (omega arith))
+and_or x y = all_bits _ _ (λ v. simp (bit_of_or, bit_of_and) (omega arith))
 
 pub and_distributes : (x y z : ℕ) → bit_and x (bit_or y z) ≡ bit_or (bit_and x y) (bit_and x z)
-and_distributes x y z = all_bits _ _ (λ v. simp (bit_or, bit_and) (omega arith))
+and_distributes x y z = all_bits _ _ (λ v. simp (bit_of_or, bit_of_and) (omega arith))
 
 -- the complement of a join is the meet of the complements
 pub complement_or : (k x y : ℕ) → x < 2 ^ k → y < 2 ^ k → 2 ^ k - 1 - bit_or x y ≡ bit_and (2 ^ k - 1 - x) (2 ^ k - 1 - y)
@@ -79,8 +79,8 @@ complement_or k x y hx hy =
     omega (
       arith,
       bit_complement v k (bit_or x y) h hor,
-      bit_or v x y,
-      bit_and v (2 ^ k - 1 - x) (2 ^ k - 1 - y),
+      bit_of_or v x y,
+      bit_of_and v (2 ^ k - 1 - x) (2 ^ k - 1 - y),
       bit_complement v k x h hx,
       bit_complement v k y h hy,
     ))
