@@ -5,7 +5,7 @@ use native.Mathlib.Nat.{div-eq_of_lt}
 use lib.Bits.{bit_and}
 use lib.Pow.{pow-lt}
 use Rattle.std.proofs.lemmas.Bool.{cases_eq, cases_lt, eq-eqb, ne_eqb, eqb-true, lt-ltb, le-ltb}
-use Rattle.scale.specs.Bitwise.{bit_and, bit_complement}
+use Rattle.scale.specs.Bitwise.{bit_of_and, bit_complement}
 use Rattle.meaning.specs.Network.{Places}
 use Rattle.meaning.specs.Quotient.{without}
 use Rattle.meaning.proofs.Cut.{pow_bit_same, pow_bit_other, zero_bit}
@@ -43,7 +43,7 @@ left_without_is l p small near = fun_ext λ x.
     ⊎_elim
     (λ e.
     let gone : bit_and l (255 - 2 ^ p) / 2 ^ x % 2 ≡ 0 =
-    bit_and x l (255 - 2 ^ p)
+    bit_of_and x l (255 - 2 ^ p)
     ∙ ap (min (l / 2 ^ x % 2)) (ap (λ y. (255 - 2 ^ p) / 2 ^ y % 2) e ∙ bit_complement p 8 (2 ^ p) near (pow-lt near) ∙ ap (λ b. 1 - b) (pow_bit_same p)) ∙ omega arith in
     ap (λ b. eqb b 1) gone ∙ sym (ap (without (left_places l) p) e ∙ without_same (left_places l) p))
     (λ apart.
@@ -52,7 +52,7 @@ left_without_is l p small near = fun_ext λ x.
   where
     kept : (x : ℕ) → (x ≡ p → ⊥) → bit_and l (255 - 2 ^ p) / 2 ^ x % 2 ≡ l / 2 ^ x % 2
     kept x apart =
-        bit_and x l (255 - 2 ^ p)
+        bit_of_and x l (255 - 2 ^ p)
         ∙ ⊎_elim
         (λ near-x.
         let one : (255 - 2 ^ p) / 2 ^ x % 2 ≡ 1 = bit_complement x 8 (2 ^ p) near-x (pow-lt near) ∙ ap (λ b. 1 - b) (pow_bit_other x p apart) in

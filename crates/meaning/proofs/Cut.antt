@@ -17,7 +17,7 @@ use Rattle.records.specs.declared.Sign.TheVariants.{Least, Greatest}
 use Rattle.scale.specs.Algebra.{Algebra, Laws, Value, Under}
 use Rattle.scale.specs.Variants.{variants, variants_value}
 use Rattle.scale.specs.YesNo.{yes_no, yes_no_value}
-use Rattle.scale.specs.Bitwise.{bit_half, bit_or, bit_and, bit_complement, same_bits}
+use Rattle.scale.specs.Bitwise.{bit_half, bit_of_or, bit_of_and, bit_complement, same_bits}
 use Rattle.scale.specs.Laws.{variants_laws, yes_no_laws}
 use Rattle.meaning.specs.Cut.{cut_network, cut_edge, cut_graph}
 use Rattle.meaning.specs.Graph.{Graph, Position, Guards, EdgeFits, WellFormedGraph, Fits, Moves, offers_on, network_system}
@@ -88,13 +88,13 @@ yn_complement x a = ap (λ t. cond t (1 - x) 0) (small x a)
 bits_rise : (x y : ℕ) → Under variants x y → (w : ℕ) → x / 2 ^ w % 2 ≤ y / 2 ^ w % 2
 bits_rise x y h w =
     let e : bit_or x y ≡ y = sym (join_is x y h.low h.high) ∙ h.joined in
-    omega (arith, bit_or w x y, ap (λ z. z / 2 ^ w % 2) e)
+    omega (arith, bit_of_or w x y, ap (λ z. z / 2 ^ w % 2) e)
 
 rise_bits : (x y : ℕ) → Value variants x → Value variants y → ((w : ℕ) → w < 64 → x / 2 ^ w % 2 ≤ y / 2 ^ w % 2) → Under variants x y
 rise_bits x y a b h = record {
   low = a;
   high = b;
-  joined = join_is x y a b ∙ same_bits 64 (bit_or x y) y (or_lt 64 x y (coded x a) (coded y b)) (coded y b) (λ w lt. omega (arith, bit_or w x y, h w lt));
+  joined = join_is x y a b ∙ same_bits 64 (bit_or x y) y (or_lt 64 x y (coded x a) (coded y b)) (coded y b) (λ w lt. omega (arith, bit_of_or w x y, h w lt));
 }
 
 yn_le : (x y : ℕ) → Under yes_no x y → x ≤ y
@@ -110,12 +110,12 @@ module _ (v : ℕ) (v_in : v < 64) where
   -- a bit is that of its operation
   bit_of_meet : (x y : ℕ) → Value variants x → Value variants y → bit v (variants.meet x y) ≡ yes_no.meet (bit v x) (bit v y)
   bit_of_meet x y a b =
-      ap (bit v) (meet_is x y a b) ∙ raw v (bit_and x y) v_in ∙ bit_and v x y
+      ap (bit v) (meet_is x y a b) ∙ raw v (bit_and x y) v_in ∙ bit_of_and v x y
       ∙ (λ i. min (sym (raw v x v_in) i) (sym (raw v y v_in) i)) ∙ sym (yn_meet (bit v x) (bit v y) (bit_small v x) (bit_small v y))
 
   bit_of_join : (x y : ℕ) → Value variants x → Value variants y → bit v (variants.join x y) ≡ yes_no.join (bit v x) (bit v y)
   bit_of_join x y a b =
-      ap (bit v) (join_is x y a b) ∙ raw v (bit_or x y) v_in ∙ bit_or v x y
+      ap (bit v) (join_is x y a b) ∙ raw v (bit_or x y) v_in ∙ bit_of_or v x y
       ∙ (λ i. max (sym (raw v x v_in) i) (sym (raw v y v_in) i)) ∙ sym (yn_join (bit v x) (bit v y) (bit_small v x) (bit_small v y))
 
   bit_of_complement : (x : ℕ) → Value variants x → bit v (variants.complement x) ≡ yes_no.complement (bit v x)

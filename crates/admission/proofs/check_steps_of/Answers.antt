@@ -6,9 +6,9 @@ pub loop-e-init : goal.loop-e-init
 loop-e-init g c = earliest_none _
 
 pub loop-e-preserved : goal.loop-e-preserved
-loop-e-preserved g c = earliest_more _ _ c.loop-e.invariant c.in-ok-check-step.ensures.0
+loop-e-preserved g c = earliest_more _ _ c.loop-e.invariant c.in_ok-check_step.ensures.0
 
-pub returns-in-err-check-step : goal.returns-in-err-check-step
-returns-in-err-check-step g c =
-    passed_up _ _ c.from-residual.ensures.1
-    (earliest_found _ _ _ _ c.loop-e.invariant c.in-err-check-step.ensures (omega arith))
+pub returns-in_err-check_step : goal.returns-in_err-check_step
+returns-in_err-check_step g c =
+    passed_up _ _ c.from_residual.ensures.1
+    (earliest_found _ _ _ _ c.loop-e.invariant c.in_err-check_step.ensures (omega arith))

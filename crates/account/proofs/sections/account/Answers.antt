@@ -12,6 +12,6 @@ returns c =
     let h = c.args.case.now.header in
     joined string_bytes _ {a' = heading bs h} {b' = rules_text bs h} {c' = blocks_text bs h} {d' = nodes_text bs h} {e' = edges_text bs h}
     {f' = gathered h.places (place_text bs h)}
-    c.in-ok-heading.ensures c.in-ok-rules.ensures c.in-ok-blocks.ensures
-    c.in-ok-nodes.ensures c.in-ok-edges.ensures c.in-ok-places.ensures
+    c.in_ok-heading.ensures c.in_ok-rules.ensures c.in_ok-blocks.ensures
+    c.in_ok-nodes.ensures c.in_ok-edges.ensures c.in_ok-places.ensures
     c.format.ensures.ok

@@ -1,7 +1,7 @@
 use Rattle.casefile.proofs.Fine.{laid_out}
 use Rattle.casefile.proofs.checks.check.Goals as goal
 
-pub check-edges-requires : goal.check-edges-requires
-check-edges-requires g c =
-    laid_out g.S.Scale.algebra _ _ _ c.in-ok-header.ensures.0 c.in-ok-header.ensures.1
-    c.in-ok-check-nodes.ensures.0
+pub check_edges-requires : goal.check_edges-requires
+check_edges-requires g c =
+    laid_out g.S.Scale.algebra _ _ _ c.in_ok-header.ensures.0 c.in_ok-header.ensures.1
+    c.in_ok-check_nodes.ensures.0

@@ -7,12 +7,12 @@ pub loop-i-init : goal.loop-i-init
 loop-i-init c = earliest_none _
 
 pub loop-i-preserved : goal.loop-i-preserved
-loop-i-preserved c = edges_more _ _ c.requires _ c.loop-i-test.true c.loop-i.invariant c.in-ok-check-edges-of.ensures.0
+loop-i-preserved c = edges_more _ _ c.requires _ c.loop-i-test.true c.loop-i.invariant c.in_ok-check_edges_of.ensures.0
 
-pub returns-in-err-check-edges-of : goal.returns-in-err-check-edges-of
-returns-in-err-check-edges-of c =
-    passed_up _ _ c.from-residual.ensures.1
-    (edges_found _ _ c.requires _ _ c.loop-i-test.true c.loop-i.invariant c.in-err-check-edges-of.ensures)
+pub returns-in_err-check_edges_of : goal.returns-in_err-check_edges_of
+returns-in_err-check_edges_of c =
+    passed_up _ _ c.from_residual.ensures.1
+    (edges_found _ _ c.requires _ _ c.loop-i-test.true c.loop-i.invariant c.in_err-check_edges_of.ensures)
 
 pub returns-then-end-from : goal.returns-then-end-from
 returns-then-end-from c =

@@ -16,11 +16,11 @@ overflow-cast-node c =
 pub loop-k-preserved : goal.loop-k-preserved
 loop-k-preserved c =
     let e = ap (λ n. n.first) c.node-node.ensures in
-    earliest_more _ _ c.loop-k.invariant (rw e at c.in-ok-check-edge.ensures.0)
+    earliest_more _ _ c.loop-k.invariant (rw e at c.in_ok-check_edge.ensures.0)
 
-pub returns-in-err-check-edge : goal.returns-in-err-check-edge
-returns-in-err-check-edge c =
+pub returns-in_err-check_edge : goal.returns-in_err-check_edge
+returns-in_err-check_edge c =
     let e = ap (λ n. n.first) c.node-node.ensures in
-    passed_up _ _ c.from-residual.ensures.1
-    (earliest_found _ _ _ _ c.loop-k.invariant (rw e at c.in-err-check-edge.ensures)
+    passed_up _ _ c.from_residual.ensures.1
+    (earliest_found _ _ _ _ c.loop-k.invariant (rw e at c.in_err-check_edge.ensures)
     (omega (arith, ap (λ n. n.count) c.node-node.ensures)))

@@ -6,9 +6,9 @@ pub loop-i-init : goal.loop-i-init
 loop-i-init g c = earliest_none _
 
 pub loop-i-preserved : goal.loop-i-preserved
-loop-i-preserved g c = earliest_more _ _ c.loop-i.invariant c.in-ok-check-node.ensures.0
+loop-i-preserved g c = earliest_more _ _ c.loop-i.invariant c.in_ok-check_node.ensures.0
 
-pub returns-in-err-check-node : goal.returns-in-err-check-node
-returns-in-err-check-node g c =
-    passed_up _ _ c.from-residual.ensures.1
-    (earliest_found _ _ _ _ c.loop-i.invariant c.in-err-check-node.ensures (omega arith))
+pub returns-in_err-check_node : goal.returns-in_err-check_node
+returns-in_err-check_node g c =
+    passed_up _ _ c.from_residual.ensures.1
+    (earliest_found _ _ _ _ c.loop-i.invariant c.in_err-check_node.ensures (omega arith))

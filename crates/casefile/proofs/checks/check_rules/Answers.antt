@@ -6,9 +6,9 @@ pub loop-rule-init : goal.loop-rule-init
 loop-rule-init c = earliest_none _
 
 pub loop-rule-preserved : goal.loop-rule-preserved
-loop-rule-preserved c = earliest_more _ _ c.loop-rule.invariant c.in-ok-check-rule.ensures.0
+loop-rule-preserved c = earliest_more _ _ c.loop-rule.invariant c.in_ok-check_rule.ensures.0
 
-pub returns-in-err-check-rule : goal.returns-in-err-check-rule
-returns-in-err-check-rule c =
-    passed_up _ _ c.from-residual.ensures.1
-    (earliest_found _ _ _ _ c.loop-rule.invariant c.in-err-check-rule.ensures (omega arith))
+pub returns-in_err-check_rule : goal.returns-in_err-check_rule
+returns-in_err-check_rule c =
+    passed_up _ _ c.from_residual.ensures.1
+    (earliest_found _ _ _ _ c.loop-rule.invariant c.in_err-check_rule.ensures (omega arith))

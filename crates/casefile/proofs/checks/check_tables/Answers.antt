@@ -10,15 +10,15 @@ loop-place-init c = earliest_none _
 pub loop-place-preserved : goal.loop-place-preserved
 loop-place-preserved c =
     earliest_more _ _ c.loop-place.invariant
-    (placed_fine _ table_fault _ _ _ _ c.table-at.ensures c.check-table.ensures c.in-ok-placed.ensures)
+    (placed_fine _ table_fault _ _ _ _ c.table_at.ensures c.check_table.ensures c.in_ok-placed.ensures)
 
-pub returns-in-err-placed : goal.returns-in-err-placed
-returns-in-err-placed c =
-    passed_up _ _ c.from-residual.ensures.1
+pub returns-in_err-placed : goal.returns-in_err-placed
+returns-in_err-placed c =
+    passed_up _ _ c.from_residual.ensures.1
     (first_here _ _ (earliest_found _ _ _ _ c.loop-place.invariant
-    (placed_fault _ table_fault _ _ _ _ c.table-at.ensures c.check-table.ensures c.in-err-placed.ensures) (omega arith)))
+    (placed_fault _ table_fault _ _ _ _ c.table_at.ensures c.check_table.ensures c.in_err-placed.ensures) (omega arith)))
 
-pub check-end-requires : goal.check-end-requires
-check-end-requires c =
-    let small = last_small _ _ _ _ c.requires (omega arith) c.loop-place.invariant c.table-at-2.ensures in
+pub check_end-requires : goal.check_end-requires
+check_end-requires c =
+    let small = last_small _ _ _ _ c.requires (omega arith) c.loop-place.invariant c.table_at-2.ensures in
     record { few = small.0; short = small.1 }

@@ -6,9 +6,9 @@ pub loop-i-init : goal.loop-i-init
 loop-i-init c = earliest_none _
 
 pub loop-i-preserved : goal.loop-i-preserved
-loop-i-preserved c = earliest_more _ _ c.loop-i.invariant c.in-ok-check-start.ensures.0
+loop-i-preserved c = earliest_more _ _ c.loop-i.invariant c.in_ok-check_start.ensures.0
 
-pub returns-in-err-check-start : goal.returns-in-err-check-start
-returns-in-err-check-start c =
-    passed_up _ _ c.from-residual.ensures.1
-    (earliest_found _ _ _ _ c.loop-i.invariant c.in-err-check-start.ensures (omega arith))
+pub returns-in_err-check_start : goal.returns-in_err-check_start
+returns-in_err-check_start c =
+    passed_up _ _ c.from_residual.ensures.1
+    (earliest_found _ _ _ _ c.loop-i.invariant c.in_err-check_start.ensures (omega arith))

@@ -6,9 +6,9 @@ pub loop-k-init : goal.loop-k-init
 loop-k-init c = earliest_none _
 
 pub loop-k-preserved : goal.loop-k-preserved
-loop-k-preserved c = earliest_more _ _ c.loop-k.invariant c.in-ok-check-transition.ensures.0
+loop-k-preserved c = earliest_more _ _ c.loop-k.invariant c.in_ok-check_transition.ensures.0
 
-pub returns-in-err-check-transition : goal.returns-in-err-check-transition
-returns-in-err-check-transition c =
-    passed_up _ _ c.from-residual.ensures.1
-    (earliest_found _ _ _ _ c.loop-k.invariant c.in-err-check-transition.ensures (omega arith))
+pub returns-in_err-check_transition : goal.returns-in_err-check_transition
+returns-in_err-check_transition c =
+    passed_up _ _ c.from_residual.ensures.1
+    (earliest_found _ _ _ _ c.loop-k.invariant c.in_err-check_transition.ensures (omega arith))

@@ -8,16 +8,16 @@ use Rattle.book.specs.Model.{model}
 use Rattle.book.proofs.Turns.{any_more, any_found}
 use Rattle.fit.proofs.Reading.{counts_found, past_rules}
 use Rattle.fit.proofs.guards.has_participant.Goals as goal
-use Rattle.fit.proofs.guards.has_participant.Goals.{else-is-left-via-then-is-left+else-takes-part, else-is-left-via-else-is-left}
+use Rattle.fit.proofs.guards.has_participant.Goals.{else-is_left-via-then-is_left+else-takes_part, else-is-left-via-else-is-left}
 
-pub returns-in-default : goal.returns-in-default
-returns-in-default c =
+pub returns-in_default : goal.returns-in_default
+returns-in_default c =
     let B = model c.args.book.now in
-    let past : length B.rules ≤ c.args.number = omega (arith, c.in-default.ensures.lookup.3, ap length c.rules.ensures) in
+    let past : length B.rules ≤ c.args.number = omega (arith, c.in_default.ensures.lookup.3, ap length c.rules.ensures) in
     sym (past_rules B (left_places c.args.left) c.args.number 8 past)
 
-pub returns-then-takes-part : goal.returns-then-takes-part
-returns-then-takes-part c =
+pub returns-then-takes_part : goal.returns-then-takes_part
+returns-then-takes_part c =
     let B = model c.args.book.now in
     let left = left_places c.args.left in
     let p = c.loop-place.place in
@@ -25,7 +25,7 @@ returns-then-takes-part c =
     let here = counts_found B left c.args.number p c.from.result c.rules.result.now x c.rules.ensures c.from.ensures c.in-Some.ensures.lookup in
     sym
     (any_found (counts B left c.args.number) p 8 c.loop-place-test.true
-    (sym here ∙ and_from (left p) (takes_part x.now p) (sym c.if-is-left.ensures) (sym c.if-takes-part.ensures)))
+    (sym here ∙ and_from (left p) (takes_part x.now p) (sym c.if-is_left.ensures) (sym c.if-takes_part.ensures)))
 
 pub loop-place-preserved : goal.loop-place-preserved
 loop-place-preserved c =
@@ -36,9 +36,9 @@ loop-place-preserved c =
     let here = counts_found B left c.args.number p c.from.result c.rules.result.now x c.rules.ensures c.from.ensures c.in-Some.ensures.lookup in
     any_more (counts B left c.args.number) p c.loop-place.invariant
     (sym here
-    ∙ elim c.else-is-left.branch [
-      | else-is-left-via-then-is-left+else-takes-part w ↦ and_right (left p) (takes_part x.now p) (sym w.if-takes-part.ensures)
-      | else-is-left-via-else-is-left w ↦ and_left (left p) (takes_part x.now p) (sym w.if-is-left.ensures)
+    ∙ elim c.else-is_left.branch [
+      | else-is_left-via-then-is_left+else-takes_part w ↦ and_right (left p) (takes_part x.now p) (sym w.if-takes_part.ensures)
+      | else-is-left-via-else-is-left w ↦ and_left (left p) (takes_part x.now p) (sym w.if-is_left.ensures)
     ])
 
 pub returns : goal.returns

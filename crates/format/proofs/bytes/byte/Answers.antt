@@ -4,6 +4,6 @@ use Rattle.format.proofs.bytes.byte.Goals as goal
 
 pub returns : goal.returns
 returns c =
-    c.unwrap-or.ensures
+    c.unwrap_or.ensures
     ∙ ap (λ o. unwrap_or o 0) c.copied.ensures
     ∙ byte_got c.args.bytes.now c.args.at c.get.result c.get.ensures.lookup

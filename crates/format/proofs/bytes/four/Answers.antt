@@ -6,5 +6,5 @@ use Rattle.format.proofs.bytes.four.Goals as goal
 pub returns : goal.returns
 unfolding two four
 returns c =
-    let read : c.from-le-bytes.result ≡ four c.tail-rest.result.now 0 = search rules in
+    let read : c.from_le_bytes.result ≡ four c.tail-rest.result.now 0 = search rules in
     read ∙ four_at c.args.bytes.now _ c.args.at c.tail-rest.ensures

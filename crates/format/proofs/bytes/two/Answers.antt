@@ -6,5 +6,5 @@ use Rattle.format.proofs.bytes.two.Goals as goal
 pub returns : goal.returns
 unfolding two
 returns c =
-    let read : c.from-le-bytes.result ≡ two c.tail-rest.result.now 0 = search rules in
+    let read : c.from_le_bytes.result ≡ two c.tail-rest.result.now 0 = search rules in
     read ∙ two_at c.args.bytes.now _ c.args.at c.tail-rest.ensures

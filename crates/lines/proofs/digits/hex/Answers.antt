@@ -11,7 +11,7 @@ pub loop-k-preserved : goal.loop-k-preserved
 loop-k-preserved c =
     one_more _ _ _ _ _ c.loop-k.invariant
     (c.push.ensures.ascii c.digit.ensures.ascii ∙ ap (λ d. d ∷ []) c.digit.ensures.value)
-    c.in-ok-push.ensures.bytes
+    c.in_ok-push.ensures.bytes
 
 pub returns : goal.returns
 unfolding hex

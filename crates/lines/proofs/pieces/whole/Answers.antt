@@ -8,7 +8,7 @@ loop-i-init g c = begun _ _ c.new-text.ensures.bytes
 
 pub loop-i-preserved : goal.loop-i-preserved
 loop-i-preserved g c =
-    one_more _ _ _ _ _ c.loop-i.invariant (c.as-str.ensures.value ∙ c.in-ok-piece.ensures (omega arith)) c.in-ok-push-str.ensures.bytes
+    one_more _ _ _ _ _ c.loop-i.invariant (c.as_str.ensures.value ∙ c.in_ok-piece.ensures (omega arith)) c.in_ok-push_str.ensures.bytes
 
 pub returns : goal.returns
 returns g c = complete _ _ _ _ c.loop-i.invariant (omega arith) (omega arith)

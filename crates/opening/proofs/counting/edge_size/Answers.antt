@@ -17,6 +17,6 @@ returns-else-label c =
     let h = c.args.file.now.header in
     let label = ap (λ e. e.label) c.edge-label.ensures in
     record {
-      result = λ A. c.count-rules.ensures.result ∙ ap (λ l. length (rules_for l 0 (book_in bs h).rules)) label ∙ size_ruled A (book_in bs h).rules (edge_row bs h c.args.e) (λ e. c.if-label.false (label ∙ e));
-      few = omega (arith, c.count-rules.ensures.few);
+      result = λ A. c.count_rules.ensures.result ∙ ap (λ l. length (rules_for l 0 (book_in bs h).rules)) label ∙ size_ruled A (book_in bs h).rules (edge_row bs h c.args.e) (λ e. c.if-label.false (label ∙ e));
+      few = omega (arith, c.count_rules.ensures.few);
     }

@@ -22,8 +22,8 @@ overflow-add-node g c =
 pub loop-k-init : goal.loop-k-init
 loop-k-init g c = (omega arith, sym (filled_none c.args.at c.args.edges.now))
 
-pub put-opened-end-requires : goal.put-opened-end-requires
-put-opened-end-requires g c =
+pub put_opened-end-requires : goal.put_opened-end-requires
+put_opened-end-requires g c =
     let A = g.S.Scale.algebra in
     let rs = c.args.rules.now in
     let bs = c.args.file.now.bytes.now in
@@ -45,9 +45,9 @@ loop-k-preserved g c =
     let room : c.args.at + length (gathered (opened_at A rs bs h) (range_with_len n.first n.count)) ≤ length c.args.edges.now = omega arith in
     let edge = c.edge-edge.ensures in (
       gathered_end (opened_at A rs bs h) n.first c.loop-k.k n.count c.args.at c.loop-k.end c.args.edges.now c.loop-k.edges c.loop-k-test.true c.loop-k.invariant.0 c.loop-k.invariant.1 room
-          c.put-opened-end.result (c.put-opened-end.ensures.end ∙ ap (λ e. c.loop-k.end + length (opened_edge A rs e)) edge),
+          c.put_opened-end.result (c.put_opened-end.ensures.end ∙ ap (λ e. c.loop-k.end + length (opened_edge A rs e)) edge),
       gathered_next (opened_at A rs bs h) n.first c.loop-k.k n.count c.args.at c.loop-k.end c.args.edges.now c.loop-k.edges c.loop-k-test.true c.loop-k.invariant.0 c.loop-k.invariant.1 room
-          c.put-opened-end.new.edges (c.put-opened-end.ensures.edges ∙ ap (λ e. filled c.loop-k.end (opened_edge A rs e) c.loop-k.edges) edge),
+          c.put_opened-end.new.edges (c.put_opened-end.ensures.edges ∙ ap (λ e. filled c.loop-k.end (opened_edge A rs e) c.loop-k.edges) edge),
     )
 
 pub returns : goal.returns

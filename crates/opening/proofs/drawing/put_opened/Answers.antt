@@ -3,13 +3,13 @@ use Rattle.writing.specs.Filled.{filled}
 use Rattle.opening.proofs.Ruled.{size_plain, size_ruled, opened_plain, opened_ruled}
 use Rattle.opening.proofs.drawing.put_opened.Goals as goal
 
-pub put-edge-requires : goal.put-edge-requires
-put-edge-requires g c =
+pub put_edge-requires : goal.put_edge-requires
+put_edge-requires g c =
     let one = size_plain g.S.Scale.algebra c.args.rules.now c.args.edge c.if-edge-eq-NONE.true in
     record { within = omega arith; few = omega arith }
 
-pub put-ruled-requires : goal.put-ruled-requires
-put-ruled-requires g c =
+pub put_ruled-requires : goal.put_ruled-requires
+put_ruled-requires g c =
     let size = size_ruled g.S.Scale.algebra c.args.rules.now c.args.edge c.if-edge-eq-NONE.false in
     record { rules = c.requires.rules; room = omega arith; few = omega arith }
 
@@ -20,8 +20,8 @@ returns-then-edge-eq-NONE g c =
     let e = c.args.edge in
     let one = size_plain A rs e c.if-edge-eq-NONE.true in
     record {
-      end = c.put-edge.ensures.end ∙ ap (λ n. c.args.at + n) one;
-      edges = c.put-edge.ensures.edges ∙ ap (λ x. filled c.args.at (x ∷ []) c.args.edges.now) c.opened-next.ensures ∙ ap (λ l. filled c.args.at l c.args.edges.now) (sym (opened_plain A rs e c.if-edge-eq-NONE.true));
+      end = c.put_edge.ensures.end ∙ ap (λ n. c.args.at + n) one;
+      edges = c.put_edge.ensures.edges ∙ ap (λ x. filled c.args.at (x ∷ []) c.args.edges.now) c.opened-next.ensures ∙ ap (λ l. filled c.args.at l c.args.edges.now) (sym (opened_plain A rs e c.if-edge-eq-NONE.true));
     }
 
 pub returns-else-edge-eq-NONE : goal.returns-else-edge-eq-NONE
@@ -30,6 +30,6 @@ returns-else-edge-eq-NONE g c =
     let rs = c.args.rules.now in
     let e = c.args.edge in
     record {
-      end = c.put-ruled.ensures.end ∙ ap (λ n. c.args.at + n) (size_ruled A rs e c.if-edge-eq-NONE.false);
-      edges = c.put-ruled.ensures.edges ∙ ap (λ l. filled c.args.at l c.args.edges.now) (sym (opened_ruled A rs e c.if-edge-eq-NONE.false));
+      end = c.put_ruled.ensures.end ∙ ap (λ n. c.args.at + n) (size_ruled A rs e c.if-edge-eq-NONE.false);
+      edges = c.put_ruled.ensures.edges ∙ ap (λ l. filled c.args.at l c.args.edges.now) (sym (opened_ruled A rs e c.if-edge-eq-NONE.false));
     }

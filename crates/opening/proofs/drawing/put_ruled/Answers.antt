@@ -11,8 +11,8 @@ use Rattle.opening.proofs.drawing.put_ruled.Goals.{then-rule-edge, else-rule-edg
 pub loop-rule-init : goal.loop-rule-init
 loop-rule-init g c = (refl, omega arith, sym (filled_none c.args.at c.args.edges.now))
 
-pub put-edge-end-requires : goal.put-edge-end-requires
-put-edge-end-requires g c =
+pub put_edge-end-requires : goal.put_edge-end-requires
+put_edge-end-requires g c =
     let more = room_left c.args.edge.label c.args.rules.now c.loop-rule.rule-index c.loop-rule-test.true c.if-rule-edge.true in
     record { within = omega (arith, c.loop-rule.invariant.1); few = omega (arith, c.loop-rule.invariant.1) }
 
@@ -29,8 +29,8 @@ loop-rule-preserved g c =
     elim c.if-rule-edge.branch [
       | then-rule-edge w ↦ (
         omega (arith, inv.0),
-        end_taken label rs i lt weight target at c.loop-rule.end c.loop-rule.number c.args.edges.now c.loop-rule.edges inv.0 inv.1 inv.2 c.requires.room c.if-rule-edge.end w.if-rule-edge.true (w.end-is ∙ w.put-edge-end.ensures.end),
-        written_taken label rs i lt weight target at c.loop-rule.end c.loop-rule.number c.args.edges.now c.loop-rule.edges inv.0 inv.1 inv.2 c.requires.room c.if-rule-edge.edges w.if-rule-edge.true (w.edges-is ∙ w.put-edge-end.ensures.edges ∙ ap (λ e. filled c.loop-rule.end (e ∷ []) c.loop-rule.edges) w.opened-next.ensures),
+        end_taken label rs i lt weight target at c.loop-rule.end c.loop-rule.number c.args.edges.now c.loop-rule.edges inv.0 inv.1 inv.2 c.requires.room c.if-rule-edge.end w.if-rule-edge.true (w.end-is ∙ w.put_edge-end.ensures.end),
+        written_taken label rs i lt weight target at c.loop-rule.end c.loop-rule.number c.args.edges.now c.loop-rule.edges inv.0 inv.1 inv.2 c.requires.room c.if-rule-edge.edges w.if-rule-edge.true (w.edges-is ∙ w.put_edge-end.ensures.edges ∙ ap (λ e. filled c.loop-rule.end (e ∷ []) c.loop-rule.edges) w.opened-next.ensures),
       )
       | else-rule-edge w ↦ (
         omega (arith, inv.0),

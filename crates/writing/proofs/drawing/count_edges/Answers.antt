@@ -2,11 +2,11 @@ use Rattle.std.proofs.Common.{◌<◌, arith}
 use Rattle.writing.proofs.Filling.{edges_with, length_more, past_limit}
 use Rattle.writing.proofs.drawing.count_edges.Goals as goal
 
-pub returns-in-default : goal.returns-in-default
-returns-in-default g c =
+pub returns-in_default : goal.returns-in_default
+returns-in_default g c =
     let G = g.C.Counted.graph c.args.counted.now in
     let within : c.loop-q.q < G.nodes = omega arith in
-    omega (arith, edges_with G c.loop-q.q within, c.in-default.ensures)
+    omega (arith, edges_with G c.loop-q.q within, c.in_default.ensures)
 
 pub returns-then-more-total : goal.returns-then-more-total
 returns-then-more-total g c =

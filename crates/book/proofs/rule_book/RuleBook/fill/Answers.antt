@@ -7,5 +7,5 @@ use Rattle.book.proofs.rule_book.RuleBook.fill.Goals as goal
 pub invariant-of-self : goal.invariant-of-self
 invariant-of-self c =
     let h = c.args.file.now.header in
-    let parts = every_read (has_part h.places) (rule_row c.args.file.now.bytes.now h) h.rules (vec_items c.put-rules.new.rules) c.put-rules.ensures.items (sym c.if-not-all-parts.ensures) in
-    (subst (λ n. 256 ≤ n) (sym c.put-rules.ensures.capacity) c.args.self.now.rule_room, (subst (λ n. 16 ≤ n) (sym c.put-signs.ensures.capacity) c.args.self.now.sign_room, (parts, tt)))
+    let parts = every_read (has_part h.places) (rule_row c.args.file.now.bytes.now h) h.rules (vec_items c.put_rules.new.rules) c.put_rules.ensures.items (sym c.if-not-all_parts.ensures) in
+    (subst (λ n. 256 ≤ n) (sym c.put_rules.ensures.capacity) c.args.self.now.rule_room, (subst (λ n. 16 ≤ n) (sym c.put_signs.ensures.capacity) c.args.self.now.sign_room, (parts, tt)))

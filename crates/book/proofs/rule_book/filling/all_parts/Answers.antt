@@ -9,13 +9,13 @@ use Rattle.book.proofs.rule_book.filling.all_parts.Goals as goal
 abbrev parted : CaseFile → ℕ → Bool
 parted f i = has_part f.header.places (rule_row f.bytes.now f.header i)
 
-pub returns-then-not-has-part : goal.returns-then-not-has-part
-returns-then-not-has-part c =
+pub returns-then-not-has_part : goal.returns-then-not-has_part
+returns-then-not-has_part c =
     sym
     (all_lost (parted c.args.file.now) c.loop-i.i c.args.file.now.header.rules c.loop-i-test.true
-    (sym (c.if-not-has-part.ensures ∙ ap (has_part c.args.file.now.header.places) c.rule.ensures)))
+    (sym (c.if-not-has_part.ensures ∙ ap (has_part c.args.file.now.header.places) c.rule.ensures)))
 
 pub loop-i-preserved : goal.loop-i-preserved
 loop-i-preserved c =
     all_more (parted c.args.file.now) c.loop-i.i c.loop-i.invariant
-    (sym (c.if-not-has-part.ensures ∙ ap (has_part c.args.file.now.header.places) c.rule.ensures))
+    (sym (c.if-not-has_part.ensures ∙ ap (has_part c.args.file.now.header.places) c.rule.ensures))

@@ -16,26 +16,26 @@ use Rattle.fit.proofs.view.View.edges_fit.Goals as goal
 abbrev test : Algebra → View → ℕ → Edge → Bool
 test A v q = edge_test A (model v.book.now) (left_places v.remainder.now.left) (held v.remainder.now (memory v)) q
 
-pub returns-then-not-edge-fits : goal.returns-then-not-edge-fits
-returns-then-not-edge-fits g c =
+pub returns-then-not-edge_fits : goal.returns-then-not-edge_fits
+returns-then-not-edge_fits g c =
     let v = c.args.self.now in
     let n = node_in (memory v) c.args.q in
     every_lost (test g.S.Scale.algebra v c.args.q) _ (edges_of (memory v) n) c.loop-edge.edge_index no_edge
-    (part_is (memory v) n c.node-node.result c.end-of.result c.node-node.ensures c.end-of.ensures)
-    c.loop-edge-test.true c.if-not-edge-fits.ensures
+    (part_is (memory v) n c.node-node.result c.end_of.result c.node-node.ensures c.end_of.ensures)
+    c.loop-edge-test.true c.if-not-edge_fits.ensures
 
 pub loop-edge-preserved : goal.loop-edge-preserved
 loop-edge-preserved g c =
     let v = c.args.self.now in
     let n = node_in (memory v) c.args.q in
     every_more (test g.S.Scale.algebra v c.args.q) _ (edges_of (memory v) n) c.loop-edge.edge_index no_edge
-    (part_is (memory v) n c.node-node.result c.end-of.result c.node-node.ensures c.end-of.ensures)
-    c.loop-edge-test.true c.loop-edge.invariant c.if-not-edge-fits.ensures
+    (part_is (memory v) n c.node-node.result c.end_of.result c.node-node.ensures c.end_of.ensures)
+    c.loop-edge-test.true c.loop-edge.invariant c.if-not-edge_fits.ensures
 
 pub returns : goal.returns
 returns g c =
     let v = c.args.self.now in
     let n = node_in (memory v) c.args.q in
     every_passed (test g.S.Scale.algebra v c.args.q) _ (edges_of (memory v) n) c.loop-edge.edge_index
-    (part_is (memory v) n c.node-node.result c.end-of.result c.node-node.ensures c.end-of.ensures)
+    (part_is (memory v) n c.node-node.result c.end_of.result c.node-node.ensures c.end_of.ensures)
     c.loop-edge-test.false c.loop-edge.invariant

@@ -11,13 +11,13 @@ use Rattle.fit.proofs.view.View.nodes_fit.Goals as goal
 abbrev test : Algebra → View → ℕ → Bool
 test A v q = fits_node A (model v.book.now) v.remainder.now (memory v) q
 
-pub returns-then-not-node-fits : goal.returns-then-not-node-fits
-returns-then-not-node-fits g c =
+pub returns-then-not-node_fits : goal.returns-then-not-node_fits
+returns-then-not-node_fits g c =
     sym
     (all_lost (test g.S.Scale.algebra c.args.self.now) c.loop-q.q c.args.self.now.remainder.now.nodes c.loop-q-test.true
-    (sym c.if-not-node-fits.ensures))
+    (sym c.if-not-node_fits.ensures))
 
 pub loop-q-preserved : goal.loop-q-preserved
 loop-q-preserved g c =
     all_more (test g.S.Scale.algebra c.args.self.now) c.loop-q.q c.loop-q.invariant
-    (sym c.if-not-node-fits.ensures)
+    (sym c.if-not-node_fits.ensures)

@@ -4,8 +4,8 @@ use Rattle.opening.proofs.counting.SizeCounted.degree.Goals as goal
 pub overflow-cast-q : goal.overflow-cast-q
 overflow-cast-q g c = omega (arith, c.requires.within, c.requires.ready.nodes)
 
-pub node-size-requires : goal.node-size-requires
-node-size-requires g c = record { rules = c.requires.ready.rules; range = c.requires.ready.ranges c.args.q c.requires.within }
+pub node_size-requires : goal.node_size-requires
+node_size-requires g c = record { rules = c.requires.ready.rules; range = c.requires.ready.ranges c.args.q c.requires.within }
 
 pub returns : goal.returns
-returns g c = c.node-size.ensures g.S.Scale.algebra
+returns g c = c.node_size.ensures g.S.Scale.algebra
