@@ -5,12 +5,12 @@ use Rattle.casefile.proofs.checks.check_edges_of.Goals as goal
 pub loop-k-init : goal.loop-k-init
 loop-k-init c = earliest_none _
 
-pub overflow-add-node : goal.overflow-add-node
-overflow-add-node c =
+pub overflow_add-node : goal.overflow_add-node
+overflow_add-node c =
     omega (arith, c.requires, ap (λ n. n.first) c.node-node.ensures, ap (λ n. n.count) c.node-node.ensures)
 
-pub overflow-cast-node : goal.overflow-cast-node
-overflow-cast-node c =
+pub overflow_cast-node : goal.overflow_cast-node
+overflow_cast-node c =
     omega (arith, c.requires, ap (λ n. n.first) c.node-node.ensures, ap (λ n. n.count) c.node-node.ensures)
 
 pub loop-k-preserved : goal.loop-k-preserved

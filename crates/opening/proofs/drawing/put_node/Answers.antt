@@ -9,13 +9,13 @@ use Rattle.writing.proofs.Filling.{filled_none, gathered_end, gathered_room, gat
 use Rattle.opening.proofs.Ruled.{opened_at, node_edges}
 use Rattle.opening.proofs.drawing.put_node.Goals as goal
 
-pub overflow-cast-node : goal.overflow-cast-node
-overflow-cast-node g c =
+pub overflow_cast-node : goal.overflow_cast-node
+overflow_cast-node g c =
     let range = c.requires.measured.ranges c.args.q c.requires.within in
     omega (arith, ap (λ n. n.first) c.node-node.ensures, ap (λ n. n.count) c.node-node.ensures)
 
-pub overflow-add-node : goal.overflow-add-node
-overflow-add-node g c =
+pub overflow_add-node : goal.overflow_add-node
+overflow_add-node g c =
     let range = c.requires.measured.ranges c.args.q c.requires.within in
     omega (arith, ap (λ n. n.first) c.node-node.ensures, ap (λ n. n.count) c.node-node.ensures)
 

@@ -2,8 +2,8 @@ use Rattle.std.proofs.Common.{◌≡◌, ap, arith}
 use Rattle.records.specs.declared.Node.{Node}
 use Rattle.opening.proofs.drawing.FormulaDrawn.node.Goals as goal
 
-pub overflow-cast-q : goal.overflow-cast-q
-overflow-cast-q g c = omega (arith, c.requires.within, c.requires.ready.0.nodes)
+pub overflow_cast-q : goal.overflow_cast-q
+overflow_cast-q g c = omega (arith, c.requires.within, c.requires.ready.0.nodes)
 
 -- the node that was read with another range of edges
 pub returns : goal.returns
