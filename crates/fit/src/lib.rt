@@ -4,7 +4,7 @@
 mod guards;
 mod view;
 
-ghost use Rattle.std.specs.Prelude.{◌≡◌};
+ghost use Rattle.std.specs.Prelude.{◌≡◌, ◌^◌, nat_lt};
 ghost use Rattle.fault.specs.First.{Passes};
 ghost use Rattle.calls.specs.Fit.{fits};
 ghost use Rattle.calls.specs.Outcome.{fit_fault};
@@ -16,6 +16,13 @@ use fault::Fault;
 use records::{Edge, Node};
 use scale::Scale;
 use view::View;
+
+// The places left are among the first `places`; of eight and more there is no other.
+fn left_fits(left: u8, places: u8) -> bool
+    ensures { result ≡ nat_lt left (2 ^ places) }
+{
+    places >= 8 || u16::from(left) < 1 << places
+}
 
 // Everything about the remainder holds in these memories by this rule book.
 pub fn fits<'a, S: Scale>(
@@ -34,7 +41,7 @@ pub fn fits<'a, S: Scale>(
     };
     remainder.nodes as usize <= nodes.len()
         && remainder.edges as usize <= edges.len()
-        && u16::from(remainder.left) < 1 << book.places()
+        && left_fits(remainder.left, book.places())
         && remainder.initial < remainder.nodes
         && view.nodes_fit::<S>()
         && view.due(remainder.nodes) == u64::from(remainder.edges)

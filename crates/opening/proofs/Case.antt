@@ -45,9 +45,8 @@ module _ {A : Algebra} (L : Laws A) (n : ℕ) (bs : List ℕ) (fine : file_fault
       let h = header_of bs in
       let w = accepted A n bs fine in
       let parts = all h.rules (λ r. has_part h.places (rule_row bs h r)) in
-      and_from (leb h.places 8) (leb h.rules 256 && (leb h.blocks 16 && parts)) (le-leb h.places 8 w.header.places.1)
-      (and_from (leb h.rules 256) (leb h.blocks 16 && parts) (le-leb h.rules 256 w.header.rules)
-      (and_from (leb h.blocks 16) parts (le-leb h.blocks 16 w.header.blocks.1) (all_from h.rules (λ r. has_part h.places (rule_row bs h r)) part)))
+      and_from (leb h.rules 256) (leb h.blocks 16 && parts) (le-leb h.rules 256 w.header.rules)
+      (and_from (leb h.blocks 16) parts (le-leb h.blocks 16 w.header.blocks.1) (all_from h.rules (λ r. has_part h.places (rule_row bs h r)) part))
 
   pub measured : Measured bs (header_of bs)
   measured =

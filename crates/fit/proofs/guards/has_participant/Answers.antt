@@ -8,7 +8,7 @@ use Rattle.book.specs.Model.{model}
 use Rattle.book.proofs.Turns.{any_more, any_found}
 use Rattle.fit.proofs.Reading.{counts_found, past_rules}
 use Rattle.fit.proofs.guards.has_participant.Goals as goal
-use Rattle.fit.proofs.guards.has_participant.Goals.{else-is_left-via-then-is_left+else-takes_part, else-is-left-via-else-is-left}
+use Rattle.fit.proofs.guards.has_participant.Goals.{else-is_left-via-then-is_left+else-takes_part, else-is_left-via-else-is_left}
 
 pub returns-in_default : goal.returns-in_default
 returns-in_default c =
@@ -38,7 +38,7 @@ loop-place-preserved c =
     (sym here
     ∙ elim c.else-is_left.branch [
       | else-is_left-via-then-is_left+else-takes_part w ↦ and_right (left p) (takes_part x.now p) (sym w.if-takes_part.ensures)
-      | else-is-left-via-else-is-left w ↦ and_left (left p) (takes_part x.now p) (sym w.if-is_left.ensures)
+      | else-is_left-via-else-is_left w ↦ and_left (left p) (takes_part x.now p) (sym w.if-is_left.ensures)
     ])
 
 pub returns : goal.returns

@@ -20,7 +20,7 @@ pub returns-then-not-edge_fits : goal.returns-then-not-edge_fits
 returns-then-not-edge_fits g c =
     let v = c.args.self.now in
     let n = node_in (memory v) c.args.q in
-    every_lost (test g.S.Scale.algebra v c.args.q) _ (edges_of (memory v) n) c.loop-edge.edge_index no_edge
+    every_lost (test g.S.Scale.algebra v c.args.q) _ (edges_of (memory v) n) c.loop-edge.edge-index no_edge
     (part_is (memory v) n c.node-node.result c.end_of.result c.node-node.ensures c.end_of.ensures)
     c.loop-edge-test.true c.if-not-edge_fits.ensures
 
@@ -28,7 +28,7 @@ pub loop-edge-preserved : goal.loop-edge-preserved
 loop-edge-preserved g c =
     let v = c.args.self.now in
     let n = node_in (memory v) c.args.q in
-    every_more (test g.S.Scale.algebra v c.args.q) _ (edges_of (memory v) n) c.loop-edge.edge_index no_edge
+    every_more (test g.S.Scale.algebra v c.args.q) _ (edges_of (memory v) n) c.loop-edge.edge-index no_edge
     (part_is (memory v) n c.node-node.result c.end_of.result c.node-node.ensures c.end_of.ensures)
     c.loop-edge-test.true c.loop-edge.invariant c.if-not-edge_fits.ensures
 
@@ -36,6 +36,6 @@ pub returns : goal.returns
 returns g c =
     let v = c.args.self.now in
     let n = node_in (memory v) c.args.q in
-    every_passed (test g.S.Scale.algebra v c.args.q) _ (edges_of (memory v) n) c.loop-edge.edge_index
+    every_passed (test g.S.Scale.algebra v c.args.q) _ (edges_of (memory v) n) c.loop-edge.edge-index
     (part_is (memory v) n c.node-node.result c.end_of.result c.node-node.ensures c.end_of.ensures)
     c.loop-edge-test.false c.loop-edge.invariant
