@@ -1,7 +1,8 @@
 -- What is known of a case file that was not refused.
-use Rattle.std.proofs.Common.{◌≡◌, ℕ, zero, suc, ◌+◌, ◌<◌, ◌≤◌, Bool, true, false, cond, ◌&&◌, eqb, leb, List, length, None, sym, refl, ap, ◌∙◌, subst, arith}
+use Rattle.std.proofs.Common.{◌≡◌, ℕ, zero, suc, ◌+◌, ◌<◌, ◌≤◌, Bool, true, false, cond, ◌&&◌, eqb, leb, List, length, Option, None, sym, refl, ap, ◌∙◌, subst, arith}
 use Rattle.std.proofs.lemmas.Bool.{and_from, le-leb, ne_eqb, not_from_false}
 use Rattle.fault.proofs.First.{first_later}
+use Rattle.fault.specs.declared.Fault.{Fault}
 use Rattle.records.specs.Codes.{none, label, takes_part}
 use Rattle.scale.specs.Algebra.{Algebra, Laws}
 use Rattle.format.specs.Layout.{header_of, rule_row}
@@ -64,11 +65,15 @@ module _ (A : Algebra) (bs fs : List ℕ) (h : Header) (same : fs ≡ bs) (own :
   pub book_same : book_in fs h ≡ book_of bs
   book_same = ap (λ x. book_in x h) same ∙ ap (book_in bs) own
 
+  -- where the file has no fault, opening has the room's
+  pub fault_due : (n : ℕ) (m : Memory) (due : Option Fault) → file_fault A n bs ≡ None → room_fault (formula_in A fs h).nodes (length (edge_rows (formula_in A fs h))) m ≡ due → open_fault A n bs m ≡ due
+  fault_due n m due fine room = first_later (file_fault A n bs) _ fine (subst (λ G. room_fault G.nodes (length (edge_rows G)) m ≡ due) formula_same room)
+
 -- Everything that an accepted opening leaves, by what was read and written.
 module _ {A : Algebra} (L : Laws A) (n : ℕ) (bs fs : List ℕ) (h : Header) (fine : file_fault A n bs ≡ None) (same : fs ≡ bs) (own : h ≡ header_of bs)
     (m : Memory) (room : room_fault (formula_in A fs h).nodes (length (edge_rows (formula_in A fs h))) m ≡ None) where
   pub no_fault : open_fault A n bs m ≡ None
-  no_fault = first_later (file_fault A n bs) _ fine (subst (λ G. room_fault G.nodes (length (edge_rows G)) m ≡ None) (formula_same A bs fs h same own) room)
+  no_fault = fault_due A bs fs h same own n m None fine room
 
   -- the book as it is filled
   pub filled_book : (before after : Book) (b : Bool) → b ≡ holds fs h → after ≡ cond b (book_in fs h) before → after ≡ book_in fs h

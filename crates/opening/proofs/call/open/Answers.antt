@@ -1,13 +1,14 @@
-use Rattle.std.proofs.Common.{◌≡◌, length, sym, refl, ap, ◌∙◌}
+use Rattle.std.proofs.Common.{◌≡◌, Some, length, sym, refl, ap, ◌∙◌}
 use Rattle.book.specs.Model.{model}
 use Rattle.calls.specs.Memory.{Memory, node_rows, edge_rows, over, written}
 use Rattle.calls.specs.Opening.{book_in, book_of, formula_in, formula_graph}
 use Rattle.calls.specs.Outcome.{opened}
 use Rattle.calls.specs.declared.remainder.Remainder.{Remainder}
 use Rattle.meaning.specs.Network.{Book}
+use Rattle.fault.proofs.First.{passed_up}
 use Rattle.writing.proofs.Enough.{room_enough}
 use Rattle.opening.specs.Measured.{Measured}
-use Rattle.opening.proofs.Case.{measured, read_by, formula_same, book_same, no_fault, filled_book, numbers, fits_there}
+use Rattle.opening.proofs.Case.{measured, read_by, formula_same, book_same, no_fault, filled_book, numbers, fault_due, fits_there}
 use Rattle.opening.proofs.call.open.Goals as goal
 
 pub check_room-requires : goal.check_room-requires
@@ -29,6 +30,15 @@ write-count-requires g c =
     let known = read_by Measured bs f.bytes.now f.header ok.1.0 ok.1.1 (measured L g.S.Scale.header bs ok.0) in
     let book = filled_book L g.S.Scale.header bs f.bytes.now f.header ok.0 ok.1.0 ok.1.1 m none (model c.args.book.now) (model c.fill-filled.new.self) c.fill-filled.result c.fill-filled.ensures.test c.fill-filled.ensures.after in
     record { ready = (known, c.rules-rules.ensures ∙ ap (λ (b : Book). b.rules) book); nodes = room.nodes; edges = room.edges; few_nodes = room.few_nodes; few_edges = room.few_edges }
+
+pub returns-in_err-check_room-clause-result : goal.returns-in_err-check_room-clause-result
+returns-in_err-check_room-clause-result g c =
+    let A = g.S.Scale.algebra in
+    let ok = c.in_ok-file.ensures in
+    let f = c.in_ok-file.file in
+    let m : Memory = record { nodes = c.args.nodes.now; edges = c.args.edges.now } in
+    passed_up _ _ c.from_residual-in_err-check_room.ensures.1
+    (fault_due A c.args.bytes.now f.bytes.now f.header ok.1.0 ok.1.1 g.S.Scale.header m (Some c.in_err-check_room.field-0.0) ok.0 c.in_err-check_room.ensures)
 
 pub returns : goal.returns
 returns g c =
