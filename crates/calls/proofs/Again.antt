@@ -1,8 +1,8 @@
 -- What a call writes fits again.
-use Rattle.std.proofs.Common.{◌≡◌, ℕ, zero, suc, ◌+◌, ◌-◌, ◌/◌, ◌%◌, ◌^◌, ◌<◌, ◌≤◌, Bool, true, false, cond, not, ◌&&◌, ◌||◌, eqb, ltb, leb, ◌⊎◌, List, [], ◌∷◌, ◌++◌, map, length, drop, sym, refl, ap, ◌∙◌, subst, inl, inr, ⊎_elim, zero-add, arith, length-append}
+use Rattle.std.proofs.Common.{◌≡◌, ℕ, zero, suc, ◌+◌, ◌^◌, ◌<◌, ◌≤◌, Bool, true, ◌&&◌, eqb, ltb, leb, List, [], ◌∷◌, length, drop, sym, refl, ap, ◌∙◌, subst, inl, inr, ⊎_elim, arith, length-append}
 use Rattle.std.specs.List.{range_with_len}
 use Rattle.std.proofs.lemmas.List.FromFn.{length-map-range_with_len}
-use Rattle.std.proofs.lemmas.Bool.{and_from, eq-eqb, lt-ltb, le-leb, or_left, or_right, cases_eq, true≢false}
+use Rattle.std.proofs.lemmas.Bool.{and_from, eq-eqb, lt-ltb, le-leb, or_left, or_right, cases_eq}
 use Rattle.records.specs.declared.Edge.{Edge}
 use Rattle.records.specs.declared.Guard.{Guard}
 use Rattle.records.specs.declared.Guard.TheVariants.{Plain, By}
@@ -19,7 +19,6 @@ use Rattle.meaning.proofs.Removal.{participant_near}
 use Rattle.calls.specs.Fit.{due, plain_values, fits_node, fits}
 use Rattle.calls.specs.Left.{left_places}
 use Rattle.calls.specs.Memory.{Memory, node_in, held, edges_before, node_row, node_rows, edge_rows, written, numbers_of}
-use Rattle.calls.specs.declared.remainder.Remainder.{Remainder}
 use Rattle.calls.proofs.Agree.{agree_formed}
 use Rattle.calls.proofs.Written.{row_at, written_agrees, sizes, before_sizes}
 

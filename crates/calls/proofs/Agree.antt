@@ -1,11 +1,9 @@
 -- Graphs that are equal below their count of nodes have the same solutions.
-use Rattle.std.proofs.Common.{◌≡◌, ℕ, ◌<◌, ◌≤◌, ◌⊎◌, List, sym, refl, ap, ◌∙◌, subst, inl, inr}
-use Rattle.records.specs.declared.Edge.{Edge}
-use Rattle.records.specs.declared.Kind.{Kind}
-use Rattle.scale.specs.Algebra.{Algebra, Laws, Value}
-use Rattle.meaning.specs.Graph.{Graph, Position, EdgeFits, WellFormedGraph, Fits, Moves, offers_on, network_system}
+use Rattle.std.proofs.Common.{◌≡◌, ℕ, ◌<◌, sym, refl, ◌∙◌, subst, inl}
+use Rattle.scale.specs.Algebra.{Algebra, Laws}
+use Rattle.meaning.specs.Graph.{Graph, Position, WellFormedGraph, Fits, offers_on, network_system}
 use Rattle.meaning.specs.Member.{In}
-use Rattle.meaning.specs.Network.{Book, Network, Places, Valid}
+use Rattle.meaning.specs.Network.{Book, Network, Places}
 use Rattle.meaning.specs.System.{Next, goes, ends, exactly, Solution}
 use Rattle.meaning.proofs.Removal.{network_closed}
 use Rattle.calls.specs.Equal.{Agree, EqualBelow}

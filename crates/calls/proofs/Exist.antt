@@ -1,5 +1,5 @@
 -- Every accepted call has an outcome.
-use Rattle.std.proofs.Common.{◌≡◌, Bool, true, false, not, ◌&&◌, ltb, length, None, sym, refl, ◌∙◌, ⊎_elim}
+use Rattle.std.proofs.Common.{not, ◌&&◌, ltb, length, sym, refl, ◌∙◌, ⊎_elim}
 use Rattle.std.proofs.lemmas.Bool.{cases_Bool, and_parts, not-false, true≢false}
 use Rattle.fault.specs.declared.Fault.TheVariants.{Misfit, ShortBuffer}
 use Rattle.fault.specs.First.{flag, or_else}

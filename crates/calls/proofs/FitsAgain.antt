@@ -1,40 +1,38 @@
 -- Every accepted call leaves what fits.
-use Rattle.std.proofs.Common.{◌≡◌, ℕ, zero, suc, ◌+◌, ◌-◌, ◌*◌, ◌^◌, ◌<◌, ◌≤◌, Bool, true, false, cond, not, ◌&&◌, eqb, ltb, leb, ◌⊎◌, List, [], ◌∷◌, map, length, get_or, take, drop, None, sym, refl, ap, ◌∙◌, subst, inl, inr, ⊎_elim, arith, pow_pos}
+use Rattle.std.proofs.Common.{◌≡◌, ℕ, ◌+◌, ◌-◌, ◌^◌, ◌<◌, Bool, true, not, ◌&&◌, eqb, leb, map, length, get_or, take, drop, None, refl, ap, ⊎_elim, arith, pow_pos}
 use lib.Bits.{and_le_l}
-use Rattle.std.proofs.lemmas.Bool.{and_parts, cases_Bool, eqb-true, eq-eqb, not-false, true≢false}
+use Rattle.std.proofs.lemmas.Bool.{and_parts, cases_Bool, eqb-true, not-false}
 use Rattle.fault.specs.declared.Fault.TheVariants.{Misfit}
-use Rattle.fault.specs.First.{flag, or_else}
+use Rattle.fault.specs.First.{or_else}
 use Rattle.fault.proofs.First.{neither, flag_failed}
-use Rattle.process.specs.Lts.{Lts}
 use Rattle.records.specs.declared.Kind.{Kind}
 use Rattle.records.specs.declared.Kind.TheVariants.{AnyOf, AllOf, Fixed}
 use Rattle.records.specs.declared.Node.{Node}
-use Rattle.scale.specs.Algebra.{Algebra, Laws}
+use Rattle.scale.specs.Algebra.{Algebra}
 use Rattle.casefile.specs.Refusal.{file_fault}
 use Rattle.casefile.proofs.Accepts.{exactly}
-use Rattle.meaning.specs.Check.{all, node_test}
+use Rattle.meaning.specs.Check.{node_test}
 use Rattle.meaning.specs.Fold.{fold_graph}
-use Rattle.meaning.specs.Graph.{Graph, WellFormedGraph, Fits}
+use Rattle.meaning.specs.Graph.{Graph, Fits}
 use Rattle.meaning.specs.Network.{Book, Network, Tame}
-use Rattle.meaning.specs.Trim.{Marks, rank, marked, rename, trim_graph, begins}
+use Rattle.meaning.specs.Trim.{marked, rename, trim_graph, begins}
 use Rattle.meaning.proofs.Check.{all_at}
 use Rattle.meaning.proofs.Kept.{trim_keeps, fold_keeps}
 use Rattle.meaning.proofs.Trimming.{marked_is, rank_below}
 use Rattle.calls.specs.Again as again
 use Rattle.calls.specs.Fit.{due, plain_values, fits_node, fits}
 use Rattle.calls.specs.Left.{left_places, all_left, left_without}
-use Rattle.calls.specs.Memory.{Memory, node_in, edges_of, held, edge_rows, written, numbers_of}
+use Rattle.calls.specs.Memory.{Memory, node_in, held, edge_rows}
 use Rattle.calls.specs.Opening.{book_of, formula_graph}
-use Rattle.calls.specs.Outcome.{fit_fault, room_fault, buffer_fault, open_fault, opened, removed_graph, remove_fault, trim_fault, fold_fault, Lower, Upper}
-use Rattle.calls.specs.Process.{process_fault}
+use Rattle.calls.specs.Outcome.{fit_fault, room_fault, buffer_fault, removed_graph}
 use Rattle.calls.specs.declared.remainder.Remainder.{Remainder}
 use Rattle.calls.proofs.Again.{Tidy, fits_again}
-use Rattle.calls.proofs.Lists.{Taken, taken}
+use Rattle.calls.proofs.Lists.{taken}
 use Rattle.calls.proofs.Opened.{formula_formed, formula_tidy}
 use Rattle.calls.proofs.Promise.{idle, idle_passes}
 use Rattle.calls.proofs.Reaches.{tidy_quotient}
-use Rattle.calls.proofs.Steps.{fits_of, removed_fits, removed_initial}
-use Rattle.calls.proofs.Tested.{tame_from, Fitting, fitting, fitting_true, nodes_fit}
+use Rattle.calls.proofs.Steps.{removed_fits, removed_initial}
+use Rattle.calls.proofs.Tested.{tame_from, Fitting, fitting_true, nodes_fit}
 
 -- what fits is tidy
 plain_fixed : (k : Kind) (n : Node) → plain_values k n ≡ true → k ≡ Fixed → n.count ≡ 0

@@ -1,12 +1,11 @@
 -- The places left as a number, bit by bit.
-use Rattle.std.proofs.Common.{◌≡◌, ℕ, zero, suc, ◌+◌, ◌-◌, ◌*◌, ◌/◌, ◌%◌, ◌^◌, ◌<◌, ◌≤◌, min, Bool, true, false, not, ◌&&◌, eqb, ltb, ◌⊎◌, sym, refl, ap, ◌∙◌, subst, inl, inr, ⊎_elim, arith, pow_mono}
+use Rattle.std.proofs.Common.{◌≡◌, ℕ, ◌-◌, ◌/◌, ◌%◌, ◌^◌, ◌<◌, ◌≤◌, min, true, eqb, ltb, sym, ap, ◌∙◌, ⊎_elim, arith, pow_mono}
 use mathlib.Core.Path.{fun_ext}
 use native.Mathlib.Nat.{div-eq_of_lt}
 use lib.Bits.{bit_and}
 use lib.Pow.{pow-lt}
 use Rattle.std.proofs.lemmas.Bool.{cases_eq, cases_lt, eq-eqb, ne_eqb, eqb-true, lt-ltb, le-ltb}
 use Rattle.scale.specs.Bitwise.{bit_of_and, bit_complement}
-use Rattle.meaning.specs.Network.{Places}
 use Rattle.meaning.specs.Quotient.{without}
 use Rattle.meaning.proofs.Cut.{pow_bit_same, pow_bit_other, zero_bit}
 use Rattle.meaning.proofs.Removal.{without_same, without_other}

@@ -1,7 +1,7 @@
 -- Lists of calls keep the value, call after call.
-use Rattle.std.proofs.Common.{◌≡◌, ℕ, ◌^◌, ◌<◌, ◌≤◌, Bool, true, false, cond, not, ◌&&◌, ◌||◌, ◌⊎◌, List, [], ◌∷◌, length, Some, None, Option, sym, refl, ap, ◌∙◌, subst, subst₂, inl, inr, ⊎_elim, arith}
-use Rattle.std.proofs.lemmas.Bool.{cases_eq, cases_Bool, not-false, true≢false}
-use Rattle.fault.specs.declared.Fault.TheVariants.{Misfit, NotLeft}
+use Rattle.std.proofs.Common.{◌≡◌, ℕ, ◌≤◌, true, not, List, length, None, sym, refl, ap, ◌∙◌, subst, subst₂, inl, inr, ⊎_elim, arith}
+use Rattle.std.proofs.lemmas.Bool.{cases_eq, not-false}
+use Rattle.fault.specs.declared.Fault.TheVariants.{NotLeft}
 use Rattle.fault.specs.First.{flag, or_else}
 use Rattle.fault.proofs.First.{flag_failed, neither}
 use Rattle.process.specs.Lts.{Lts}
@@ -15,7 +15,7 @@ use Rattle.meaning.specs.Trim.{trim_graph}
 use Rattle.meaning.proofs.Removal.{without_left, without_other}
 use Rattle.calls.specs.Left.{left_places, left_without}
 use Rattle.calls.specs.Memory.{Memory, held, edge_rows, written, numbers_of}
-use Rattle.calls.specs.Outcome.{fit_fault, removed_graph, remove_fault, trim_fault, fold_fault, close_fault, room_fault, buffer_fault}
+use Rattle.calls.specs.Outcome.{fit_fault, removed_graph, remove_fault, room_fault, buffer_fault}
 use Rattle.calls.specs.Process.{process_fault}
 use Rattle.calls.specs.Promise.{Given}
 use Rattle.calls.specs.Runs.{Call, Stage, open_at, closed_at, Removal, Runs, done, refused, removes, trims, folds, closes}

@@ -1,24 +1,21 @@
 -- The graph that a well-formed case file opens as is well formed and tidy.
-use Rattle.std.proofs.Common.{◌≡◌, ℕ, zero, suc, ◌+◌, ◌-◌, ◌<◌, ◌≤◌, Bool, true, false, cond, not, ◌&&◌, eqb, ltb, ◌⊎◌, List, [], ◌∷◌, map, length, get_or, sym, refl, ap, ◌∙◌, subst, inl, inr, ⊎_elim, zero-add, arith}
+use Rattle.std.proofs.Common.{◌≡◌, ℕ, zero, suc, ◌+◌, ◌-◌, ◌<◌, ◌≤◌, Bool, true, false, cond, eqb, List, [], ◌∷◌, map, length, get_or, sym, ap, ◌∙◌, subst, inl, inr, ⊎_elim, arith}
 use Rattle.std.specs.List.{range_with_len}
 use Rattle.std.proofs.lemmas.List.FromFn.{length-map-range_with_len, get_or-map-range_with_len}
-use Rattle.std.proofs.lemmas.Bool.{cases_eq, cases_Bool, cases_lt, eq-eqb, ne_eqb, eqb-true, lt-ltb, ltb-true, true≢false, not_from_false, and_from}
+use Rattle.std.proofs.lemmas.Bool.{cases_eq, cases_Bool, cases_lt, eq-eqb, ne_eqb, lt-ltb, ltb-true, not_from_false, and_from}
 use Rattle.records.specs.Codes.{none, kind_of, label, takes_part}
 use Rattle.records.specs.declared.Edge.{Edge}
 use Rattle.records.specs.declared.Guard.TheVariants.{Plain, By}
-use Rattle.records.specs.declared.Kind.{Kind}
 use Rattle.records.specs.declared.Kind.TheVariants.{AnyOf, AllOf, Fixed}
 use Rattle.records.specs.declared.Rule.{Rule}
-use Rattle.scale.specs.Algebra.{Algebra, Laws, Value}
+use Rattle.scale.specs.Algebra.{Algebra, Laws}
 use Rattle.format.specs.Layout.{header_of, kind_byte, node_row, edge_row, rule_label, rule_asks, rule_row, block_sign}
-use Rattle.format.specs.declared.file.FormulaEdge.{FormulaEdge}
-use Rattle.casefile.specs.WellFormed.{WellFormed, FineNode, FineEdge, FineRule, InARow}
-use Rattle.meaning.specs.Graph.{Graph, Guards, EdgeFits, WellFormedGraph}
+use Rattle.casefile.specs.WellFormed.{WellFormed}
+use Rattle.meaning.specs.Graph.{Guards, EdgeFits, WellFormedGraph}
 use Rattle.meaning.specs.Member.{In}
-use Rattle.meaning.specs.Network.{Book, counts, rule_of, idle_rule}
+use Rattle.meaning.specs.Network.{rule_of, idle_rule}
 use Rattle.meaning.specs.Quotient.{gathered}
 use Rattle.meaning.proofs.Members.{of_map, of_gathered}
-use Rattle.calls.specs.Left.{left_places, all_left}
 use Rattle.calls.specs.Opening.{book_of, rules_for, opened_edge, formula_graph}
 use Rattle.calls.specs.Promise.{places_of}
 use Rattle.calls.proofs.Again.{Tidy}

@@ -1,8 +1,8 @@
 -- The promise about every list of calls.
-use Rattle.std.proofs.Common.{◌≡◌, ℕ, zero, suc, ◌<◌, ◌≤◌, Bool, true, false, cond, not, ◌&&◌, eqb, ltb, ◌⊎◌, List, [], ◌∷◌, length, Some, None, Option, unwrap_or, sym, refl, ap, ◌∙◌, subst, inl, inr, ⊎_elim, arith}
-use Rattle.std.proofs.lemmas.Bool.{and_parts, cases_eq, eq-eqb, ne_eqb, eqb-true, cases_Bool, not-false, true≢false}
+use Rattle.std.proofs.Common.{◌≡◌, ℕ, ◌<◌, ◌≤◌, true, cond, not, ◌&&◌, eqb, ltb, List, [], ◌∷◌, length, Some, None, Option, unwrap_or, sym, refl, ap, ◌∙◌, subst, inl, inr, ⊎_elim, arith}
+use Rattle.std.proofs.lemmas.Bool.{and_parts, cases_eq, eq-eqb, ne_eqb, eqb-true, cases_Bool, not-false}
 use Rattle.fault.specs.declared.Fault.TheVariants.{Misfit, ShortBuffer}
-use Rattle.fault.specs.First.{flag, or_else, earliest}
+use Rattle.fault.specs.First.{flag, earliest}
 use Rattle.fault.proofs.First.{flag_failed, neither}
 use Rattle.process.specs.Lts.{Lts}
 use Rattle.process.specs.SingleVariant.{bit}
@@ -10,25 +10,23 @@ use Rattle.scale.specs.Algebra.{Algebra, Laws}
 use Rattle.scale.specs.Variants.{variants}
 use Rattle.scale.specs.YesNo.{yes_no}
 use Rattle.scale.specs.Laws.{variants_laws, yes_no_laws}
-use Rattle.format.specs.Layout.{header_of}
 use Rattle.casefile.specs.Refusal.{file_fault}
 use Rattle.casefile.proofs.Accepts.{exactly}
 use Rattle.meaning.specs.Cut.{cut_network, cut_graph}
 use Rattle.meaning.specs.Graph.{Graph, Position, Fits, network_system}
 use Rattle.meaning.specs.Member.{In}
-use Rattle.meaning.specs.Network.{Book, Network, Tame, Valid, start}
+use Rattle.meaning.specs.Network.{Network}
 use Rattle.meaning.specs.System.{Solution}
 use Rattle.meaning.specs.Value.{beginning, HasValue}
-use Rattle.meaning.proofs.Theorems.{value_exists, value_unique, cut_to_variant}
+use Rattle.meaning.proofs.Theorems.{value_exists, cut_to_variant}
 use Rattle.calls.specs.Fit.{fits}
 use Rattle.calls.specs.Left.{left_places, all_left}
-use Rattle.calls.specs.Memory.{Memory, held, edge_rows, written, numbers_of}
+use Rattle.calls.specs.Memory.{held, edge_rows, written}
 use Rattle.calls.specs.Opening.{book_of, formula_graph}
-use Rattle.calls.specs.Outcome.{open_fault, opened, room_fault, closes, initial_fixed, verdict_fault, Verdict}
+use Rattle.calls.specs.Outcome.{opened, room_fault, closes, initial_fixed}
 use Rattle.calls.specs.Process.{process_fault}
 use Rattle.calls.specs.Promise.{places_of, Judged, Given, Passing, VerdictIsValue, VariantIsJudged, OneCase, OrderDoesNotMatter}
-use Rattle.calls.specs.Runs.{Removal, open_at, closed_at}
-use Rattle.calls.specs.declared.remainder.Remainder.{Remainder}
+use Rattle.calls.specs.Runs.{Removal}
 use Rattle.calls.specs.Equal.{Agree}
 use Rattle.calls.proofs.Agree.{agree_fits, agree_solution}
 use Rattle.calls.proofs.Lists.{tame_all, kept, once, passed, fits_at}

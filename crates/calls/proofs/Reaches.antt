@@ -1,5 +1,5 @@
 -- Every order of removals reaches a verdict, where the limits are kept.
-use Rattle.std.proofs.Common.{◌≡◌, ℕ, zero, suc, ◌-◌, ◌/◌, ◌%◌, ◌^◌, ◌<◌, ◌≤◌, Bool, true, false, cond, not, ◌&&◌, ◌||◌, eqb, ltb, ◌⊎◌, List, [], ◌∷◌, map, length, replicate, None, sym, refl, ap, ◌∙◌, subst, inl, inr, ⊎_elim, arith, pow_pos}
+use Rattle.std.proofs.Common.{◌≡◌, ℕ, ◌-◌, ◌/◌, ◌%◌, ◌^◌, ◌<◌, ◌≤◌, Bool, true, false, not, ◌&&◌, eqb, ltb, List, [], ◌∷◌, length, replicate, None, sym, refl, ap, ◌∙◌, ⊎_elim, arith, pow_pos}
 use lib.Bits.{and_le_l}
 use lib.ListN.{length-replicate}
 use Rattle.std.proofs.lemmas.Nat.{div_below}
@@ -8,7 +8,6 @@ use Rattle.fault.specs.declared.Fault.TheVariants.{Misfit, NotLeft, FewNodes, Fe
 use Rattle.fault.specs.First.{flag, or_else}
 use Rattle.fault.proofs.First.{flag_off, first_later}
 use Rattle.process.specs.Lts.{Lts}
-use Rattle.records.specs.declared.Kind.TheVariants.{Fixed}
 use Rattle.scale.specs.Algebra.{Algebra, Laws}
 use Rattle.casefile.specs.Refusal.{file_fault}
 use Rattle.casefile.proofs.Accepts.{exactly}
@@ -23,16 +22,15 @@ use Rattle.calls.specs.Left.{left_places, all_left, left_without}
 use Rattle.calls.specs.Memory.{Memory, no_node, node_in, held, edge_rows, written, numbers_of}
 use Rattle.calls.specs.NotEmpty.{Names, Small, no_edge, room_for, SmallAll, removals, EveryOrderReaches}
 use Rattle.calls.specs.Opening.{book_of, formula_graph}
-use Rattle.calls.specs.Outcome.{most_nodes, most_edges, few_nodes, few_edges, room_fault, fit_fault, open_fault, opened, removed_graph, remove_fault, closes, close_fault, initial_fixed, verdict_fault, values_over, Verdict}
+use Rattle.calls.specs.Outcome.{most_nodes, most_edges, few_nodes, few_edges, room_fault, fit_fault, opened, removed_graph, remove_fault, closes, initial_fixed, verdict_fault, values_over, Verdict}
 use Rattle.calls.specs.Process.{process_fault}
-use Rattle.calls.specs.Promise.{Judged, Passing}
+use Rattle.calls.specs.Promise.{Passing}
 use Rattle.calls.specs.Runs.{Call, remove, close, Runs, removes, open_at, closed_at}
 use Rattle.calls.specs.Runs as runs
 use Rattle.calls.specs.declared.remainder.Remainder.{Remainder}
 use Rattle.calls.proofs.Again.{Tidy, fits_again}
-use Rattle.calls.specs.Equal.{Agree}
 use Rattle.calls.proofs.Opened.{formula_formed, formula_tidy}
-use Rattle.calls.proofs.Steps.{Tames, fits_of, removed_fits, removed_initial, rest_tame, rest_left}
+use Rattle.calls.proofs.Steps.{Tames, removed_fits, removed_initial, rest_tame, rest_left}
 use Rattle.calls.proofs.Tested.{tame_from, Fitting, fitting_true}
 use Rattle.calls.proofs.Written.{written_agrees}
 

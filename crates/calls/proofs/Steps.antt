@@ -1,22 +1,18 @@
 -- What an accepted call keeps: the value at the beginning, on every network.
-use Rattle.std.proofs.Common.{◌≡◌, ℕ, zero, suc, ◌^◌, ◌<◌, ◌≤◌, Bool, true, false, cond, not, ◌&&◌, ◌||◌, eqb, ltb, ◌⊎◌, List, [], ◌∷◌, Some, None, Option, sym, refl, ap, ◌∙◌, subst, inl, inr, ⊎_elim, mul_comm, arith, pow_mono}
+use Rattle.std.proofs.Common.{◌≡◌, ℕ, ◌^◌, ◌<◌, ◌≤◌, Bool, true, false, cond, eqb, List, sym, refl, ap, ◌∙◌, subst, ⊎_elim, mul_comm, arith, pow_mono}
 use mathlib.Core.Path.{fun_ext}
 use Rattle.std.proofs.lemmas.Nat.{mul-add-lt}
-use Rattle.std.proofs.lemmas.Bool.{cases_eq, cases_Bool, and_parts, or_cases, not-false, eqb-true, true≢false}
-use Rattle.fault.specs.declared.Fault.TheVariants.{Misfit, NotLeft, ShortBuffer}
-use Rattle.fault.specs.First.{flag, or_else}
-use Rattle.fault.proofs.First.{flag_failed, neither}
+use Rattle.std.proofs.lemmas.Bool.{cases_eq, cases_Bool, or_cases, eqb-true, true≢false}
 use Rattle.process.specs.Lts.{Lts}
 use Rattle.records.specs.declared.Kind.{Kind}
 use Rattle.records.specs.declared.Kind.TheVariants.{AnyOf, AllOf, Fixed}
-use Rattle.scale.specs.Algebra.{Algebra, Laws, Value, Under}
+use Rattle.scale.specs.Algebra.{Algebra, Laws}
 use Rattle.meaning.specs.Fold.{fold_graph}
-use Rattle.meaning.specs.Graph.{Graph, Position, Fits, network_system, reading_system}
-use Rattle.meaning.specs.Member.{In}
-use Rattle.meaning.specs.Network.{Book, Network, Places, State, Valid, Tame, put, start}
+use Rattle.meaning.specs.Graph.{Graph, Position, Fits, network_system}
+use Rattle.meaning.specs.Network.{Book, Network, Places, Valid, Tame, put, start}
 use Rattle.meaning.specs.Quotient.{pair, quotient, without}
 use Rattle.meaning.specs.System.{Above, Below, Solution}
-use Rattle.meaning.specs.Trim.{Marks, rank, trim_graph, begins}
+use Rattle.meaning.specs.Trim.{Marks, trim_graph, begins}
 use Rattle.meaning.specs.Value.{beginning}
 use Rattle.meaning.proofs.Computed.{value_removed}
 use Rattle.meaning.proofs.Kept.{trim_keeps, fold_keeps}
@@ -26,15 +22,13 @@ use Rattle.meaning.proofs.Cut.{zero_bit}
 use Rattle.meaning.proofs.Trimming.{rank_below}
 use Rattle.meaning.proofs.Theorems.{value_exists, value_unique, removal_keeps}
 use Rattle.meaning.proofs.Ways.{put_same, put_other}
-use Rattle.calls.specs.Fit.{fits}
 use Rattle.calls.specs.Left.{left_places, left_without}
 use Rattle.calls.specs.Memory.{Memory, node_in, held, written, numbers_of}
-use Rattle.calls.specs.Outcome.{fit_fault, removed_graph, remove_fault, trim_fault, fold_fault, close_fault, is_fixed, initial_fixed, closes, verdict_fault, Lower, Upper, Verdict}
-use Rattle.calls.specs.Process.{process_fault}
+use Rattle.calls.specs.Outcome.{removed_graph, is_fixed, initial_fixed, closes, Lower, Upper, Verdict}
 use Rattle.calls.specs.declared.remainder.Remainder.{Remainder}
 use Rattle.calls.proofs.Agree.{agree_fits, agree_solution}
 use Rattle.calls.proofs.Lefts.{left_without_is}
-use Rattle.calls.proofs.Tested.{tame_from, Fitting, fitting, fitting_true}
+use Rattle.calls.proofs.Tested.{Fitting}
 use Rattle.calls.proofs.Written.{written_agrees}
 
 module _ {A : Algebra} (L : Laws A) (B : Book) (few : B.places ≤ 8) (N : Network) where

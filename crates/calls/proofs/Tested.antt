@@ -1,20 +1,19 @@
 -- What the absence of a refusal gives: a process that is tame, a graph that is well formed.
-use Rattle.std.proofs.Common.{◌≡◌, ℕ, zero, suc, ◌+◌, ◌^◌, ◌<◌, ◌≤◌, Bool, true, false, not, ◌&&◌, ◌||◌, eqb, ltb, leb, ◌⊎◌, List, [], ◌∷◌, length, Some, None, Option, sym, refl, ap, ◌∙◌, subst, inl, inr, ⊎_elim, arith}
+use Rattle.std.proofs.Common.{◌≡◌, ℕ, zero, suc, ◌+◌, ◌^◌, ◌<◌, ◌≤◌, Bool, true, not, ◌&&◌, ◌||◌, eqb, ltb, leb, List, [], ◌∷◌, length, Some, None, sym, refl, ap, subst, inl, inr, arith}
 use Rattle.std.specs.List.{slice_get}
-use Rattle.std.proofs.lemmas.Bool.{and_parts, and_from, not-false, ltb-true, leb-true, eqb-false, not-true, or_parts}
-use Rattle.fault.specs.declared.Fault.{Fault}
+use Rattle.std.proofs.lemmas.Bool.{and_parts, and_from, not-false, ltb-true, leb-true, eqb-false, not-true}
 use Rattle.fault.specs.declared.Fault.TheVariants.{Shape, Step, Misfit}
 use Rattle.process.specs.Lts.{Lts}
 use Rattle.process.specs.declared.Transition.{Transition}
 use Rattle.records.specs.Codes.{none}
-use Rattle.scale.specs.Algebra.{Algebra, Value}
+use Rattle.scale.specs.Algebra.{Algebra}
 use Rattle.fault.specs.First.{flag, or_else, earliest}
 use Rattle.fault.proofs.First.{flag_failed, neither, earliest_at}
 use Rattle.meaning.specs.Check.{all, transition_test, node_test}
 use Rattle.meaning.specs.Graph.{WellFormedGraph}
 use Rattle.meaning.specs.Member.{In}
 use Rattle.meaning.specs.Network.{Book, Tame}
-use Rattle.meaning.proofs.Check.{all_at, formed_tested}
+use Rattle.meaning.proofs.Check.{formed_tested}
 use Rattle.calls.specs.Fit.{fits_node, fits, due, plain_values}
 use Rattle.calls.specs.Left.{left_places}
 use Rattle.calls.specs.Memory.{Memory, held, node_in}

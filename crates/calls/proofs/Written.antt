@@ -1,13 +1,12 @@
 -- What is written of a graph is held by the memory.
-use Rattle.std.proofs.Common.{◌≡◌, ℕ, zero, suc, ◌+◌, ◌-◌, ◌<◌, ◌≤◌, List, [], ◌∷◌, ◌++◌, map, length, get_or, take, drop, sym, refl, ap, ◌∙◌, subst, append_assoc, add-zero, zero-add, arith, length-append}
+use Rattle.std.proofs.Common.{◌≡◌, ℕ, zero, suc, ◌+◌, ◌<◌, List, [], ◌∷◌, ◌++◌, length, take, drop, sym, refl, ap, ◌∙◌, append_assoc, add-zero, zero-add, arith, length-append}
 use Rattle.std.specs.List.{range_with_len}
 use Rattle.std.proofs.lemmas.List.FromFn.{length-map-range_with_len, get_or-map-range_with_len}
 use Rattle.std.proofs.lemmas.List.{get_or_append_left}
 use Rattle.records.specs.declared.Edge.{Edge}
-use Rattle.records.specs.declared.Node.{Node}
 use Rattle.meaning.specs.Graph.{Graph}
 use Rattle.meaning.specs.Quotient.{gathered}
-use Rattle.calls.specs.Memory.{Memory, no_node, node_in, edges_of, held, edges_before, node_row, node_rows, edge_rows, over, written, numbers_of}
+use Rattle.calls.specs.Memory.{Memory, no_node, node_in, edges_of, held, edges_before, node_row, node_rows, edge_rows, written, numbers_of}
 use Rattle.calls.specs.Equal.{Agree}
 
 -- drop and take at the seam of an append

@@ -1,5 +1,5 @@
 -- The places left as a number: bit p is 1 where place p is left.
-use Rattle.std.specs.Prelude.{ℕ, ◌-◌, ◌/◌, ◌%◌, ◌^◌, Bool, ◌==◌, bit_and}
+use Rattle.std.specs.Prelude.{ℕ, ◌-◌, ◌/◌, ◌%◌, ◌^◌, ◌==◌, bit_and}
 use Rattle.meaning.specs.Network.{Places}
 
 abbrev pub left_places : ℕ → Places

@@ -10,7 +10,6 @@ use Rattle.calls.specs.Left.{left_places, all_left, left_without}
 use Rattle.calls.specs.Memory.{Memory, no_node, edge_rows, written, numbers_of}
 use Rattle.calls.specs.Opening.{book_of, formula_graph}
 use Rattle.calls.specs.Outcome.{most_nodes, most_edges, opened, removed_graph}
-use Rattle.calls.specs.Process.{process_fault}
 use Rattle.calls.specs.Promise.{Judged, Passing}
 use Rattle.calls.specs.Runs.{Removal}
 use Rattle.calls.specs.declared.remainder.Remainder.{Remainder}

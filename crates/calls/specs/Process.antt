@@ -1,5 +1,5 @@
 -- Why a process is refused: its shape first, then its transitions.
-use Rattle.std.specs.Prelude.{ℕ, Bool, not, ◌||◌, length, Some, None, Option, ◌==◌, nat_lt}
+use Rattle.std.specs.Prelude.{ℕ, not, ◌||◌, length, Some, None, Option, ◌==◌, nat_lt}
 use Rattle.std.specs.List.{slice_get}
 use Rattle.fault.specs.declared.Fault.{Fault}
 use Rattle.fault.specs.declared.Fault.TheVariants.{Shape, Step}

@@ -1,6 +1,5 @@
 -- The promise about every list of calls: the order of calls does not matter.
 use Rattle.std.specs.Prelude.{◌≡◌, ℕ, ◌<◌, true, List, None}
-use Rattle.process.specs.Lts.{Lts}
 use Rattle.process.specs.SingleVariant.{bit}
 use Rattle.scale.specs.Algebra.{Algebra, Laws}
 use Rattle.scale.specs.Variants.{variants}

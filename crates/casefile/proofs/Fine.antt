@@ -1,7 +1,7 @@
 -- Each check finds nothing exactly where the rule that it checks is kept.
-use Rattle.std.proofs.Common.{◌≡◌, ℕ, zero, suc, ◌+◌, ◌<◌, ◌≤◌, List, Some, None, sym, ap, ◌∙◌, add-one, arith}
+use Rattle.std.proofs.Common.{◌≡◌, ℕ, zero, suc, ◌+◌, ◌<◌, ◌≤◌, List, None, sym, ap, ◌∙◌, add-one, arith}
 use Rattle.std.proofs.lemmas.Bool.Decides.{nat_tests}
-use Rattle.scale.specs.Algebra.{Algebra, Value}
+use Rattle.scale.specs.Algebra.{Algebra}
 use Rattle.fault.specs.First.{or_else, earliest}
 use Rattle.format.specs.Layout.{header_of, block_code, node_row}
 use Rattle.casefile.specs.Refusal.{short_fault, header_fault, block_fault, node_fault, due, LaidOut}

@@ -1,5 +1,5 @@
 -- The tables one after another.
-use Rattle.std.proofs.Common.{◌≡◌, ℕ, zero, suc, ◌+◌, ◌-◌, ◌≤◌, ◌||◌, eqb, ltb, List, drop, Some, None, Ok, Err, Option, Result, sym, refl, ap, ◌∙◌, add-one, arith}
+use Rattle.std.proofs.Common.{◌≡◌, ℕ, ◌-◌, ◌≤◌, ◌||◌, eqb, ltb, List, Some, None, Ok, Err, Option, Result, sym, refl, ap, ◌∙◌, arith}
 use Rattle.std.specs.Option.{option_map}
 use Rattle.std.proofs.lemmas.Bool.{ltb-false, or_parts}
 use Rattle.fault.specs.declared.Fault.TheVariants.{Table}
@@ -7,7 +7,7 @@ use Rattle.fault.specs.declared.Placed.{Placed}
 use Rattle.fault.specs.declared.TableFault.{TableFault}
 use Rattle.fault.specs.declared.TableFault.TheVariants.{States, Transitions, CutOff}
 use Rattle.fault.specs.First.{flag, earliest, Passes}
-use Rattle.format.specs.Table.{states, transitions, size, table_from}
+use Rattle.format.specs.Table.{states, transitions, table_from}
 use Rattle.casefile.specs.TableFault.{cut_off, counts_fault, table_fault, placed}
 use Rattle.fault.proofs.First.{neither, flag_failed, earliest_at}
 

@@ -1,5 +1,5 @@
 -- The line that a program prints for a refusal.
-use Rattle.std.specs.Prelude.{ℕ, List, [], ◌∷◌, ◌++◌, codes, decimal}
+use Rattle.std.specs.Prelude.{ℕ, List, ◌++◌, codes, decimal}
 use Rattle.fault.specs.Fault.{number, first, second}
 use Rattle.fault.specs.declared.Fault.{Fault}
 

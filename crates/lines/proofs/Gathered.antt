@@ -1,5 +1,5 @@
 -- Text that is gathered piece by piece.
-use Rattle.std.proofs.Common.{◌≡◌, ℕ, ◌+◌, ◌≤◌, List, [], ◌++◌, sym, refl, ap, ◌∙◌, add-one, arith}
+use Rattle.std.proofs.Common.{◌≡◌, ℕ, ◌+◌, ◌≤◌, List, [], ◌++◌, ap, ◌∙◌, add-one, arith}
 use Rattle.lines.specs.Gathered.{gathered}
 
 -- nothing is gathered yet

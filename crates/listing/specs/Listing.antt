@@ -1,6 +1,6 @@
 -- The lines of a session: a call's name, the place if one is removed, and the counts of what was written, in decimal
 -- with one space between, and a line feed.
-use Rattle.std.specs.Prelude.{ℕ, List, [], ◌∷◌, ◌++◌, codes, decimal}
+use Rattle.std.specs.Prelude.{ℕ, List, ◌++◌, codes, decimal}
 use Rattle.calls.specs.declared.remainder.Remainder.{Remainder}
 
 -- the nodes and edges of a remainder

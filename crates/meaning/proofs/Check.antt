@@ -1,5 +1,5 @@
 -- What the tests of a graph and a network show.
-use Rattle.std.proofs.Common.{◌≡◌, ℕ, zero, suc, ◌<◌, ◌≤◌, Bool, true, false, cond, not, ◌&&◌, eqb, ltb, leb, ◌⊎◌, List, [], ◌∷◌, length, sym, refl, ap, ◌∙◌, subst, inl, inr, ⊎_elim, arith}
+use Rattle.std.proofs.Common.{◌≡◌, ℕ, zero, suc, ◌<◌, Bool, true, not, ◌&&◌, eqb, ltb, leb, List, [], ◌∷◌, length, ap, ◌∙◌, subst, inl, inr, ⊎_elim, arith}
 use Rattle.std.proofs.lemmas.Bool.{and_parts, cases_eq, ltb-true, leb-true, eqb-false, not-true}
 use Rattle.process.specs.Lts.{Lts}
 use Rattle.process.specs.declared.Transition.{Transition}
@@ -7,14 +7,11 @@ use Rattle.records.specs.Codes.{none}
 use Rattle.records.specs.declared.Edge.{Edge}
 use Rattle.records.specs.declared.Guard.{Guard}
 use Rattle.records.specs.declared.Guard.TheVariants.{Plain, By}
-use Rattle.records.specs.declared.Kind.{Kind}
-use Rattle.records.specs.declared.Kind.TheVariants.{AnyOf, AllOf, Fixed}
-use Rattle.scale.specs.Algebra.{Algebra, Value}
+use Rattle.scale.specs.Algebra.{Algebra}
 use Rattle.meaning.specs.Check.{all, every, transition_test, tame_test, guard_test, fixed_test, edge_test, node_test}
-use Rattle.meaning.specs.Graph.{Graph, Guards, EdgeFits, WellFormedGraph, Fits}
+use Rattle.meaning.specs.Graph.{Graph, Guards, EdgeFits, WellFormedGraph}
 use Rattle.meaning.specs.Member.{In}
-use Rattle.meaning.specs.Network.{Book, Network, Places, Tame, counts}
-use Rattle.meaning.specs.Quotient.{any}
+use Rattle.meaning.specs.Network.{Book, Places, Tame, counts}
 use Rattle.meaning.proofs.Ways.{any_true}
 
 pub all_at : (n : ℕ) (t : ℕ → Bool) → all n t ≡ true → (q : ℕ) → q < n → t q ≡ true

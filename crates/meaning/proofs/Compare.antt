@@ -1,14 +1,14 @@
 -- Two systems compared through a map of values that has an adjoint: if everything that the first makes of
 -- an assignment is before what the second makes of its image, then so are their solutions.
-use Rattle.std.proofs.Common.{◌≡◌, ℕ, zero, suc, ◌+◌, ◌<◌, ◌≤◌, Bool, true, false, cond, eqb, ◌⊎◌, sym, refl, ap, ◌∙◌, subst, inl, inr, ⊎_elim, arith}
-use Rattle.std.proofs.lemmas.Bool.{cases_eq, cases_lt, eq-eqb, ne_eqb}
+use Rattle.std.proofs.Common.{◌≡◌, ℕ, zero, suc, ◌+◌, ◌<◌, ◌≤◌, cond, eqb, ◌⊎◌, sym, refl, ap, ◌∙◌, subst, inl, inr, ⊎_elim, arith}
+use Rattle.std.proofs.lemmas.Bool.{cases_eq, eq-eqb, ne_eqb}
 use Rattle.records.specs.declared.Kind.{Kind}
 use Rattle.records.specs.declared.Kind.TheVariants.{AnyOf, AllOf, Fixed}
 use Rattle.records.specs.declared.Sign.{Sign}
 use Rattle.records.specs.declared.Sign.TheVariants.{Least, Greatest}
-use Rattle.scale.specs.Algebra.{Algebra, Laws, Value, Under}
-use Rattle.meaning.specs.System.{System, Next, Mode, exactly, one_sided, share, worth, way, Toward, Contributed, Bounds, Nearest, Above, Below, Keeps, Rival, Solves, Strong}
-use Rattle.meaning.proofs.Order.{opposite, turned, turned_back, toward_refl, toward_trans, toward_eq}
+use Rattle.scale.specs.Algebra.{Algebra, Laws, Value}
+use Rattle.meaning.specs.System.{System, Next, one_sided, share, worth, way, Toward, Bounds, Nearest, Above, Below, Keeps, Rival, Strong}
+use Rattle.meaning.proofs.Order.{opposite, turned, turned_back, toward_refl, toward_trans}
 
 -- On the way τ, f takes values of A to values of C, and g is its adjoint.
 pub record Adjoint (A C : Algebra) (τ : Sign) : Type 0 where

@@ -1,12 +1,12 @@
 -- The value of a small case, computed: its places are taken into the graph, and the run without processes
 -- is followed until it is at rest.
-use Rattle.std.proofs.Common.{◌≡◌, ℕ, zero, suc, ◌<◌, ◌≤◌, Bool, true, false, cond, ◌&&◌, eqb, ltb, ◌⊎◌, sym, refl, ap, ◌∙◌, subst, inl, inr, ⊎_elim, arith}
+use Rattle.std.proofs.Common.{◌≡◌, ℕ, zero, suc, ◌<◌, true, false, ◌&&◌, eqb, refl, ap, ◌∙◌, subst, ⊎_elim, arith}
 use Rattle.std.proofs.lemmas.Bool.{cases_Bool, eqb-true, and_parts}
 use Rattle.scale.specs.Algebra.{Algebra, Laws}
 use Rattle.meaning.specs.Graph.{Graph, Position, WellFormedGraph, Fits, network_system, reading_system}
 use Rattle.meaning.specs.Network.{Book, Network, Places, State, Valid, put, start}
 use Rattle.meaning.specs.Quotient.{pair, quotient, without}
-use Rattle.meaning.specs.System.{exactly, Solution, Strong}
+use Rattle.meaning.specs.System.{exactly, Solution}
 use Rattle.meaning.specs.Value.{beginning, HasValue}
 use Rattle.meaning.specs.Check.{all}
 use Rattle.meaning.proofs.Check.{all_at}

@@ -1,30 +1,27 @@
 -- Bit v of the value on the variants scale is the value on yes/no of the network and graph cut to variant v.
-use Rattle.std.proofs.Common.{◌≡◌, ℕ, zero, suc, ◌+◌, ◌-◌, ◌*◌, ◌/◌, ◌%◌, ◌^◌, ◌<◌, ◌≤◌, min, max, Bool, true, false, cond, ◌&&◌, eqb, ltb, ◌⊎◌, List, [], ◌∷◌, map, length, sym, refl, ap, ◌∙◌, subst, inl, inr, ⊎_elim, pow-suc, arith, pow_pos}
-use lib.Bits.{bit_and, bit_or, or_lt, and_lt}
+use Rattle.std.proofs.Common.{◌≡◌, ℕ, zero, suc, ◌-◌, ◌/◌, ◌%◌, ◌^◌, ◌<◌, ◌≤◌, min, max, Bool, true, false, cond, ◌&&◌, eqb, ltb, ◌⊎◌, length, sym, refl, ap, ◌∙◌, subst, inl, inr, ⊎_elim, pow-suc, arith}
+use lib.Bits.{bit_and, bit_or, or_lt}
 use lib.Pow.{pow-lt}
-use Rattle.std.proofs.lemmas.Bool.{cases_eq, cases_Bool, true≢false, and_parts, lt-ltb, ltb-true}
-use Rattle.process.specs.Lts.{Lts}
-use Rattle.process.specs.SingleVariant.{bit, cut_transition, single_variant}
+use Rattle.std.proofs.lemmas.Bool.{cases_eq, cases_Bool, true≢false, lt-ltb, ltb-true}
+use Rattle.process.specs.SingleVariant.{bit, cut_transition}
 use Rattle.process.specs.declared.Transition.{Transition}
-use Rattle.records.specs.Codes.{takes_part}
-use Rattle.records.specs.declared.Edge.{Edge}
 use Rattle.records.specs.declared.Guard.{Guard}
 use Rattle.records.specs.declared.Guard.TheVariants.{Plain, By}
 use Rattle.records.specs.declared.Kind.{Kind}
 use Rattle.records.specs.declared.Kind.TheVariants.{AnyOf, AllOf, Fixed}
 use Rattle.records.specs.declared.Sign.{Sign}
 use Rattle.records.specs.declared.Sign.TheVariants.{Least, Greatest}
-use Rattle.scale.specs.Algebra.{Algebra, Laws, Value, Under}
+use Rattle.scale.specs.Algebra.{Value, Under}
 use Rattle.scale.specs.Variants.{variants, variants_value}
 use Rattle.scale.specs.YesNo.{yes_no, yes_no_value}
 use Rattle.scale.specs.Bitwise.{bit_half, bit_of_or, bit_of_and, bit_complement, same_bits}
 use Rattle.scale.specs.Laws.{variants_laws, yes_no_laws}
 use Rattle.meaning.specs.Cut.{cut_network, cut_edge, cut_graph}
-use Rattle.meaning.specs.Graph.{Graph, Position, Guards, EdgeFits, WellFormedGraph, Fits, Moves, offers_on, network_system}
+use Rattle.meaning.specs.Graph.{Graph, Position, Fits, Moves, network_system}
 use Rattle.meaning.specs.Member.{In}
-use Rattle.meaning.specs.Network.{Book, Network, Places, State, Valid, Leads, Tame, asked, counts, rule_of, meet_over}
-use Rattle.meaning.specs.System.{System, Next, goes, ends, share, worth, way, Toward, Solution, Strong}
-use Rattle.meaning.proofs.Compare.{Adjoint, Related, Before, Compared, Comparable, compare}
+use Rattle.meaning.specs.Network.{Book, Network, Places, State, Valid, Leads, asked, counts, meet_over}
+use Rattle.meaning.specs.System.{System, Next, goes, ends, share, Toward, Solution}
+use Rattle.meaning.proofs.Compare.{Adjoint, Before, Comparable, compare}
 use Rattle.meaning.proofs.Exists.{strong}
 use Rattle.meaning.proofs.Members.{in_map, of_map}
 use Rattle.meaning.proofs.Order.{turned_back, share_value, share_toward, toward_refl, toward_antisym}

@@ -1,22 +1,20 @@
 -- Every graph that fits a network has a strong solution there: its places are taken into it one after the
 -- other, and what is left without processes is solved.
-use Rattle.std.proofs.Common.{◌≡◌, ℕ, zero, suc, ◌<◌, ◌≤◌, Bool, true, false, ◌&&◌, ◌⊎◌, length, sym, refl, ap, ◌∙◌, subst, inl, inr, ⊎_elim, arith}
+use Rattle.std.proofs.Common.{◌≡◌, ℕ, zero, suc, ◌<◌, true, false, ◌⊎◌, length, sym, refl, ap, ◌∙◌, subst, inl, ⊎_elim, arith}
 use mathlib.Core.Path.{fun_ext}
-use Rattle.std.proofs.lemmas.Bool.{cases_eq, cases_Bool, true≢false, and_parts}
+use Rattle.std.proofs.lemmas.Bool.{cases_Bool, true≢false, and_parts}
 use Rattle.records.specs.Codes.{takes_part}
-use Rattle.records.specs.declared.Edge.{Edge}
 use Rattle.records.specs.declared.Guard.{Guard}
 use Rattle.records.specs.declared.Guard.TheVariants.{Plain, By}
 use Rattle.scale.specs.Algebra.{Algebra, Laws}
 use Rattle.meaning.specs.Graph.{Graph, Position, Fits, Guards, Moves, offers_on, reads, network_system, reading_system}
-use Rattle.meaning.specs.Member.{In}
 use Rattle.meaning.specs.Network.{Book, Network, Places, State, Valid, rule_of}
 use Rattle.meaning.specs.Quotient.{without, quotient}
-use Rattle.meaning.specs.System.{Next, goes, ends, Mode, exactly, one_sided, Solves, Solution, Strong}
+use Rattle.meaning.specs.System.{Next, goes, ends, exactly, one_sided, Solution, Strong}
 use Rattle.meaning.proofs.Gather.{reading_closed}
 use Rattle.meaning.proofs.Iterate.{reading_solved}
 use Rattle.meaning.proofs.Removal.{without_left, network_closed, removal_alike, quotient_fits}
-use Rattle.meaning.proofs.Transfer.{Alike, next_map, transfer, transfer_back}
+use Rattle.meaning.proofs.Transfer.{Alike, next_map, transfer_back}
 use Rattle.meaning.proofs.Unique.{agree, weaken, strong_solution}
 
 module _ {A : Algebra} (L : Laws A) (B : Book) (N : Network) where

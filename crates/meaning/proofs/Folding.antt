@@ -1,16 +1,15 @@
 -- Folding keeps the value at every node and global state.
-use Rattle.std.proofs.Common.{◌≡◌, ℕ, ◌<◌, ◌≤◌, Bool, true, false, cond, eqb, ◌⊎◌, List, [], sym, refl, ap, ◌∙◌, subst, inl, inr, ⊎_elim}
+use Rattle.std.proofs.Common.{◌≡◌, ℕ, ◌<◌, Bool, true, false, cond, eqb, List, [], sym, refl, subst, inl, inr, ⊎_elim}
 use Rattle.std.proofs.lemmas.Bool.{cases_Bool, eqb-true}
 use Rattle.records.specs.declared.Edge.{Edge}
 use Rattle.records.specs.declared.Guard.{Guard}
 use Rattle.records.specs.declared.Guard.TheVariants.{Plain, By}
-use Rattle.records.specs.declared.Kind.TheVariants.{Fixed}
 use Rattle.scale.specs.Algebra.{Algebra, Laws, Value, Under}
 use Rattle.meaning.specs.Fold.{fold_graph}
-use Rattle.meaning.specs.Graph.{Graph, Position, Moves, Guards, EdgeFits, WellFormedGraph, Fits, offers_on, network_system, reading_system}
+use Rattle.meaning.specs.Graph.{Graph, Position, Moves, Fits, offers_on, network_system, reading_system}
 use Rattle.meaning.specs.Member.{In}
 use Rattle.meaning.specs.Network.{Book, Network, Places, State, Valid}
-use Rattle.meaning.specs.System.{System, Next, goes, ends, Solution, Strong}
+use Rattle.meaning.specs.System.{Next, goes, ends, Solution}
 use Rattle.meaning.proofs.Exists.{strong}
 use Rattle.meaning.proofs.Order.{under_antisym}
 use Rattle.meaning.proofs.Removal.{network_closed}

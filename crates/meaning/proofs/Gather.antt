@@ -1,18 +1,16 @@
 -- A node's right side without processes, computed from its list of edges.
-use Rattle.std.proofs.Common.{◌≡◌, ℕ, ◌<◌, ◌⊎◌, List, [], ◌∷◌, sym, refl, ap, ◌∙◌, subst, inl, inr, ⊎_elim}
+use Rattle.std.proofs.Common.{◌≡◌, ℕ, ◌<◌, List, [], ◌∷◌, sym, refl, ap, ◌∙◌, subst, inl, inr}
 use Rattle.records.specs.declared.Edge.{Edge}
 use Rattle.records.specs.declared.Guard.{Guard}
 use Rattle.records.specs.declared.Guard.TheVariants.{Plain, By}
 use Rattle.records.specs.declared.Kind.{Kind}
 use Rattle.records.specs.declared.Kind.TheVariants.{AnyOf, AllOf, Fixed}
-use Rattle.records.specs.declared.Sign.{Sign}
-use Rattle.records.specs.declared.Sign.TheVariants.{Least, Greatest}
 use Rattle.scale.specs.Algebra.{Algebra, Laws, Value, Under}
-use Rattle.meaning.specs.Graph.{Graph, EdgeFits, WellFormedGraph, reads, reading_system}
+use Rattle.meaning.specs.Graph.{Graph, WellFormedGraph, reads, reading_system}
 use Rattle.meaning.specs.Member.{In}
 use Rattle.meaning.specs.Network.{Book, Places}
-use Rattle.meaning.specs.System.{System, Next, goes, ends, share, worth, way, Toward, Contributed, Bounds, Nearest, Above, Below}
-use Rattle.meaning.proofs.Order.{first_of, first_value, first_toward, farther, farther_value, farther_left, farther_right, farther_first, share_value, share_toward, toward_trans, toward_refl}
+use Rattle.meaning.specs.System.{Next, goes, ends, share, worth, way, Toward, Contributed, Bounds, Nearest, Above, Below}
+use Rattle.meaning.proofs.Order.{first_of, first_value, first_toward, farther, farther_value, farther_left, farther_right, farther_first, share_value, toward_trans, toward_refl}
 use Rattle.meaning.proofs.Transfer.{Closed}
 
 -- the value behind an edge, where a guarded one ends at c

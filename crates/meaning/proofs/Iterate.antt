@@ -1,7 +1,7 @@
 -- A strong solution without processes, found block by block from the highest down: in each block the
 -- right sides are put in for the values, from the block's first value on, until nothing changes.
-use Rattle.std.proofs.Common.{◌≡◌, ℕ, zero, suc, ◌+◌, ◌-◌, ◌*◌, ◌<◌, ◌≤◌, Bool, true, false, cond, eqb, ◌⊎◌, List, [], ◌∷◌, length, sym, refl, ap, ◌∙◌, subst, inl, inr, ⊎_elim, suc-mul, add-mul, one-mul, zero-mul, arith}
-use Rattle.std.proofs.lemmas.Bool.{cases_eq, cases_lt, eq-eqb, ne_eqb}
+use Rattle.std.proofs.Common.{◌≡◌, ℕ, zero, suc, ◌+◌, ◌-◌, ◌*◌, ◌<◌, ◌≤◌, cond, eqb, ◌⊎◌, List, [], ◌∷◌, length, sym, refl, ap, ◌∙◌, subst, inl, inr, ⊎_elim, suc-mul, arith}
+use Rattle.std.proofs.lemmas.Bool.{cases_eq, eq-eqb, ne_eqb}
 use Rattle.records.specs.declared.Edge.{Edge}
 use Rattle.records.specs.declared.Guard.{Guard}
 use Rattle.records.specs.declared.Guard.TheVariants.{Plain, By}
@@ -10,12 +10,12 @@ use Rattle.records.specs.declared.Kind.TheVariants.{AnyOf, AllOf, Fixed}
 use Rattle.records.specs.declared.Sign.{Sign}
 use Rattle.records.specs.declared.Sign.TheVariants.{Least, Greatest}
 use Rattle.scale.specs.Algebra.{Algebra, Laws, Value, Under}
-use Rattle.meaning.specs.Graph.{Graph, EdgeFits, WellFormedGraph, reading_system, sign_at}
+use Rattle.meaning.specs.Graph.{Graph, WellFormedGraph, reading_system, sign_at}
 use Rattle.meaning.specs.Member.{In}
 use Rattle.meaning.specs.Network.{Book, Places}
-use Rattle.meaning.specs.System.{System, Mode, exactly, one_sided, share, way, Toward, Contributed, Above, Below, Keeps, Rival, Solves, Strong}
+use Rattle.meaning.specs.System.{one_sided, share, way, Toward, Contributed, Above, Below, Keeps, Rival, Strong}
 use Rattle.meaning.proofs.Gather.{behind, contribution, gather, gather_value, right_side, of_edge, to_edge, above_from, from_above, below_from, from_below}
-use Rattle.meaning.proofs.Order.{first_of, first_value, first_toward, farther_mono, share_up, toward_refl, toward_trans, toward_eq, under_refl, under_eq}
+use Rattle.meaning.proofs.Order.{first_of, first_value, first_toward, farther_mono, share_up, toward_trans, toward_eq, under_refl, under_eq}
 use Rattle.meaning.proofs.Transfer.{Matched, above, below}
 
 module _ {A : Algebra} (L : Laws A) where

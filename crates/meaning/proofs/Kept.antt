@@ -1,6 +1,5 @@
 -- Trimming and folding leave the value as it is.
 use Rattle.std.proofs.Common.{◌≡◌, sym, ap, ◌∙◌}
-use Rattle.meaning.specs.Graph.{Position}
 use Rattle.meaning.specs.Theorems.{TrimKeeps, FoldKeeps}
 use Rattle.meaning.specs.Trim.{rank, trim_graph}
 use Rattle.meaning.specs.Fold.{fold_graph}

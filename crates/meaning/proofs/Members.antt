@@ -1,6 +1,5 @@
 -- What is among the elements of lists made from other lists.
 use Rattle.std.proofs.Common.{◌≡◌, Bool, true, false, cond, ◌⊎◌, List, [], ◌∷◌, ◌++◌, map, sym, refl, ap, ◌∙◌, subst, inl, inr, ⊎_elim}
-use Rattle.std.proofs.lemmas.Bool.{true≢false}
 use Rattle.meaning.specs.Member.{In}
 use Rattle.meaning.specs.Quotient.{kept, gathered}
 

@@ -1,11 +1,11 @@
 -- What the laws of a scale give of its order.
-use Rattle.std.proofs.Common.{◌≡◌, ℕ, sym, refl, ap, ◌∙◌, subst, ap₂, arith}
+use Rattle.std.proofs.Common.{◌≡◌, ℕ, sym, ap, ◌∙◌, subst, arith}
 use Rattle.records.specs.declared.Kind.{Kind}
 use Rattle.records.specs.declared.Kind.TheVariants.{AnyOf, AllOf, Fixed}
 use Rattle.records.specs.declared.Sign.{Sign}
 use Rattle.records.specs.declared.Sign.TheVariants.{Least, Greatest}
 use Rattle.scale.specs.Algebra.{Algebra, Value, Under, Laws}
-use Rattle.meaning.specs.System.{share, Toward, way}
+use Rattle.meaning.specs.System.{share, Toward}
 
 -- the other way
 abbrev pub opposite : Sign → Sign

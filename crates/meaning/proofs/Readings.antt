@@ -1,5 +1,5 @@
 -- The two readings without processes bound the value on every network, at every global state.
-use Rattle.std.proofs.Common.{◌≡◌, ℕ, ◌<◌, ◌≤◌, ◌⊎◌, length, sym, refl, ap, ◌∙◌, subst, inl, inr, ⊎_elim}
+use Rattle.std.proofs.Common.{◌≡◌, ℕ, ◌<◌, ◌⊎◌, length, sym, refl, ap, ◌∙◌, subst, inl, inr}
 use Rattle.records.specs.declared.Edge.{Edge}
 use Rattle.records.specs.declared.Guard.{Guard}
 use Rattle.records.specs.declared.Guard.TheVariants.{Plain, By}
@@ -7,15 +7,15 @@ use Rattle.records.specs.declared.Kind.{Kind}
 use Rattle.records.specs.declared.Kind.TheVariants.{AnyOf, AllOf, Fixed}
 use Rattle.records.specs.declared.Sign.{Sign}
 use Rattle.records.specs.declared.Sign.TheVariants.{Least, Greatest}
-use Rattle.scale.specs.Algebra.{Algebra, Laws, Value, Under}
+use Rattle.scale.specs.Algebra.{Algebra, Laws, Value}
 use Rattle.meaning.specs.Graph.{Graph, Position, Fits, Moves, offers_on, reads, network_system, reading_system, sign_at}
 use Rattle.meaning.specs.Member.{In}
-use Rattle.meaning.specs.Network.{Book, Network, Places, State, Valid, Leads, asked, counts}
-use Rattle.meaning.specs.System.{System, Next, goes, ends, Mode, one_sided, share, worth, way, Toward, Contributed, Keeps, Rival, Solution, Strong}
-use Rattle.meaning.proofs.Compare.{Adjoint, Related, Before, Compared, Comparable, compare}
+use Rattle.meaning.specs.Network.{Book, Network, Places, State, Valid, counts}
+use Rattle.meaning.specs.System.{System, Next, goes, ends, one_sided, share, worth, way, Toward, Contributed, Rival, Solution, Strong}
+use Rattle.meaning.proofs.Compare.{Adjoint, Related, Before, Comparable, compare}
 use Rattle.meaning.proofs.Exists.{strong}
 use Rattle.meaning.proofs.Iterate.{reading_solved}
-use Rattle.meaning.proofs.Order.{opposite, least_greatest, first_of, first_value, first_toward, share_value, share_toward, toward_refl, toward_to, under_meet, meet_left, meet_right, meet_mono, join_mono, lowest_under, under_highest, under_antisym, complement_turns, join_left, join_right}
+use Rattle.meaning.proofs.Order.{opposite, least_greatest, first_of, first_value, first_toward, share_value, share_toward, toward_refl, toward_to, under_meet, meet_left, meet_mono, join_mono, lowest_under, under_highest, under_antisym, complement_turns, join_right}
 use Rattle.meaning.proofs.Removal.{network_closed}
 use Rattle.meaning.proofs.Transfer.{Matched, flip, above, below, keeps}
 use Rattle.meaning.proofs.Unique.{strong_solution}

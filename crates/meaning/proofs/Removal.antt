@@ -1,21 +1,20 @@
 -- A graph on a network, and its quotient by the process of one place on the rest of the network,
 -- stand for one another: pair (q, s) stands for node q where the process is in state s.
-use Rattle.std.proofs.Common.{◌≡◌, ℕ, zero, suc, ◌+◌, ◌*◌, ◌/◌, ◌%◌, ◌<◌, ◌≤◌, Bool, true, false, cond, not, ◌&&◌, eqb, ltb, ◌⊎◌, List, [], ◌∷◌, map, sym, refl, ap, ◌∙◌, subst, inl, inr, ⊎_elim, mul_comm, arith}
+use Rattle.std.proofs.Common.{◌≡◌, ℕ, ◌*◌, ◌/◌, ◌%◌, ◌<◌, Bool, true, false, cond, not, ◌&&◌, eqb, ◌⊎◌, List, [], ◌∷◌, map, sym, refl, ap, ◌∙◌, subst, inl, inr, ⊎_elim, mul_comm, arith}
 use mathlib.Core.Path.{fun_ext}
 use Rattle.std.proofs.lemmas.Nat.{mul-add-lt, div-mul-add, mod-mul-add, div_below, mod_below, div-add-mod'}
-use Rattle.std.proofs.lemmas.Bool.{cases_eq, cases_Bool, cases_lt, eq-eqb, ne_eqb, eqb-true, true≢false, and_parts, le-ltb, not_from_false, not-true}
-use Rattle.process.specs.Lts.{Lts}
+use Rattle.std.proofs.lemmas.Bool.{cases_eq, cases_Bool, cases_lt, eq-eqb, ne_eqb, eqb-true, true≢false, and_parts, le-ltb}
 use Rattle.process.specs.declared.Transition.{Transition}
-use Rattle.records.specs.Codes.{none, label, takes_part}
+use Rattle.records.specs.Codes.{none, takes_part}
 use Rattle.records.specs.declared.Edge.{Edge}
 use Rattle.records.specs.declared.Guard.{Guard}
 use Rattle.records.specs.declared.Guard.TheVariants.{Plain, By}
 use Rattle.scale.specs.Algebra.{Algebra, Laws, Value}
 use Rattle.meaning.specs.Member.{In}
-use Rattle.meaning.specs.Network.{Book, Network, Places, State, Valid, Leads, Tame, asked, counts, rule_of, meet_over, put}
+use Rattle.meaning.specs.Network.{Book, Network, Places, State, Valid, Leads, Tame, asked, counts, rule_of, put}
 use Rattle.meaning.specs.Graph.{Graph, Position, Moves, offers_on, network_system, Guards, EdgeFits, WellFormedGraph, Fits}
-use Rattle.meaning.specs.Quotient.{any, kept, gathered, without, guard_after, pair, edge_beside, edge_along, quotient_edge, quotient_edges, quotient}
-use Rattle.meaning.specs.System.{System, Next, goes, ends}
+use Rattle.meaning.specs.Quotient.{any, kept, without, guard_after, pair, edge_beside, edge_along, quotient_edge, quotient_edges, quotient}
+use Rattle.meaning.specs.System.{Next, goes, ends}
 use Rattle.meaning.proofs.Members.{in_map, of_map, in_kept, of_kept, in_gathered, of_gathered}
 use Rattle.meaning.proofs.Order.{under_meet, lowest_under}
 use Rattle.meaning.proofs.Transfer.{Closed, Alike, next_map}

@@ -1,13 +1,13 @@
 -- A system that has some of another's positions, each with the same edges or fixed at the value that it had,
 -- has the same solution there.
-use Rattle.std.proofs.Common.{◌≡◌, ℕ, ◌<◌, ◌≤◌, Bool, true, false, cond, ◌&&◌, eqb, ◌⊎◌, sym, refl, ap, ◌∙◌, subst, inl, inr, ⊎_elim, arith}
+use Rattle.std.proofs.Common.{◌≡◌, ℕ, ◌≤◌, Bool, true, false, cond, ◌&&◌, eqb, ◌⊎◌, sym, refl, ap, ◌∙◌, subst, inl, ⊎_elim, arith}
 use Rattle.std.proofs.lemmas.Bool.{cases_eq, cases_Bool, eq-eqb, ne_eqb}
 use Rattle.records.specs.declared.Kind.{Kind}
 use Rattle.records.specs.declared.Kind.TheVariants.{AnyOf, AllOf, Fixed}
 use Rattle.records.specs.declared.Sign.{Sign}
 use Rattle.records.specs.declared.Sign.TheVariants.{Least, Greatest}
 use Rattle.scale.specs.Algebra.{Algebra, Laws, Value, Under}
-use Rattle.meaning.specs.System.{System, Next, goes, ends, Mode, exactly, one_sided, share, worth, way, Toward, Contributed, Bounds, Nearest, Above, Below, Keeps, Rival, Solves, Strong}
+use Rattle.meaning.specs.System.{System, Next, goes, ends, one_sided, share, worth, way, Toward, Bounds, Nearest, Above, Below, Keeps, Rival, Strong}
 use Rattle.meaning.proofs.Order.{opposite, turned, turned_back, nearer, nearer_value, nearer_left, nearer_right, nearer_last, share_toward, toward_refl, toward_trans, toward_antisym, toward_eq, under_eq}
 use Rattle.meaning.proofs.Transfer.{Closed, next_map, Matched, above, below, keeps}
 use Rattle.meaning.proofs.Unique.{kept}

@@ -1,8 +1,7 @@
 -- The theorems on the meaning, each from the file that proves it.
-use Rattle.std.proofs.Common.{◌≡◌, length, sym, refl, ap, ◌∙◌}
+use Rattle.std.proofs.Common.{length, ap, ◌∙◌}
 use Rattle.records.specs.declared.Sign.TheVariants.{Least, Greatest}
-use Rattle.scale.specs.Laws.{variants_laws}
-use Rattle.meaning.specs.Graph.{Position, network_system, reading_system}
+use Rattle.meaning.specs.Graph.{reading_system}
 use Rattle.meaning.specs.Quotient.{without, quotient}
 use Rattle.meaning.specs.System.{exactly}
 use Rattle.meaning.specs.Theorems.{ValueExists, ValueUnique, ValueStrong, ReadingExists, ReadingUnique, ReadingsBound, CutToVariant, RemovalKeeps}

@@ -1,13 +1,13 @@
 -- Two systems whose positions stand for one another have the same solutions.
 -- Edges of lowest weight may be missing on either side: they contribute nothing.
-use Rattle.std.proofs.Common.{◌≡◌, ℕ, ◌<◌, ◌⊎◌, sym, refl, ap, ◌∙◌, subst, inl, inr, ⊎_elim}
+use Rattle.std.proofs.Common.{◌≡◌, ℕ, ◌⊎◌, sym, refl, ap, ◌∙◌, subst, inl, inr, ⊎_elim}
 use Rattle.records.specs.declared.Kind.{Kind}
 use Rattle.records.specs.declared.Kind.TheVariants.{AnyOf, AllOf, Fixed}
 use Rattle.records.specs.declared.Sign.{Sign}
 use Rattle.records.specs.declared.Sign.TheVariants.{Least, Greatest}
-use Rattle.scale.specs.Algebra.{Algebra, Laws, Value, Under}
+use Rattle.scale.specs.Algebra.{Algebra, Laws, Value}
 use Rattle.meaning.specs.System.{System, Next, goes, ends, Mode, exactly, one_sided, share, worth, way, Toward, Contributed, Bounds, Nearest, Keeps, Above, Below, Rival, Solves}
-use Rattle.meaning.proofs.Order.{first_of, first_toward, toward_trans, lowest_under, under_highest, under_antisym, under_meet, complement_lowest, join_left}
+use Rattle.meaning.proofs.Order.{first_of, first_toward, lowest_under, under_highest, under_antisym, under_meet, complement_lowest, join_left}
 
 abbrev pub next_map : {P Q : Type 0} → (P → Q) → Next P → Next Q
 next_map f (goes p) = goes (f p)

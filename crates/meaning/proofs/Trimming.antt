@@ -1,20 +1,20 @@
 -- Trimming keeps the value at every node that stays and every global state.
-use Rattle.std.proofs.Common.{◌≡◌, ℕ, zero, suc, ◌+◌, ◌<◌, ◌≤◌, Bool, true, false, cond, ◌⊎◌, List, [], ◌∷◌, ◌++◌, map, length, get_or, sym, refl, ap, ◌∙◌, subst, inl, inr, ⊎_elim, arith, length-append}
+use Rattle.std.proofs.Common.{◌≡◌, ℕ, zero, suc, ◌+◌, ◌<◌, ◌≤◌, Bool, true, false, cond, [], ◌∷◌, ◌++◌, length, get_or, sym, refl, ap, ◌∙◌, subst, inr, ⊎_elim, arith, length-append}
 use lib.Seq.{get_or-append_seam}
 use Rattle.std.proofs.lemmas.List.{get_or_append_left}
-use Rattle.std.proofs.lemmas.Bool.{cases_Bool, cases_eq, cases_lt, true≢false}
+use Rattle.std.proofs.lemmas.Bool.{cases_Bool, cases_eq, cases_lt}
 use Rattle.records.specs.declared.Edge.{Edge}
-use Rattle.scale.specs.Algebra.{Algebra, Laws, Value}
-use Rattle.meaning.specs.Graph.{Graph, Position, Moves, EdgeFits, WellFormedGraph, Fits, offers_on, network_system}
+use Rattle.scale.specs.Algebra.{Algebra, Laws}
+use Rattle.meaning.specs.Graph.{Graph, Position, Moves, Fits, offers_on, network_system}
 use Rattle.meaning.specs.Member.{In}
 use Rattle.meaning.specs.Network.{Book, Network, Places, Valid}
-use Rattle.meaning.specs.System.{System, Next, goes, ends, Solution, Strong}
-use Rattle.meaning.specs.Trim.{Reached, begins, follows, Marks, rank, marked, rename, trim_graph}
+use Rattle.meaning.specs.System.{Next, goes, ends, Solution}
+use Rattle.meaning.specs.Trim.{begins, follows, Marks, rank, marked, rename, trim_graph}
 use Rattle.meaning.proofs.Exists.{strong}
 use Rattle.meaning.proofs.Folding.{network_sound}
 use Rattle.meaning.proofs.Members.{in_map, of_map}
 use Rattle.meaning.proofs.Removal.{network_closed}
-use Rattle.meaning.proofs.Sub.{Sound, Sub, sub_strong}
+use Rattle.meaning.proofs.Sub.{Sub, sub_strong}
 use Rattle.meaning.proofs.Transfer.{next_map}
 use Rattle.meaning.proofs.Unique.{weaken}
 

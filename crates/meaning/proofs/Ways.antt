@@ -1,8 +1,7 @@
 -- How a rule leads with a place and without it.
-use Rattle.std.proofs.Common.{◌≡◌, ℕ, zero, suc, ◌<◌, ◌≤◌, Bool, true, false, cond, not, ◌&&◌, ◌||◌, eqb, ltb, ◌⊎◌, sym, refl, ap, ◌∙◌, subst, inl, inr, ⊎_elim, arith}
+use Rattle.std.proofs.Common.{◌≡◌, ℕ, zero, suc, ◌<◌, Bool, true, false, cond, eqb, sym, refl, ap, ◌∙◌, subst, ⊎_elim, arith}
 use mathlib.Core.Path.{fun_ext}
-use Rattle.std.proofs.lemmas.Bool.{cases_eq, cases_Bool, cases_lt, eq-eqb, ne_eqb, or_cases, or_parts, true≢false, lt-ltb, le-ltb, and_parts}
-use Rattle.process.specs.Lts.{Lts}
+use Rattle.std.proofs.lemmas.Bool.{cases_eq, cases_Bool, eq-eqb, ne_eqb, or_cases, or_parts, true≢false}
 use Rattle.process.specs.declared.Transition.{Transition}
 use Rattle.scale.specs.Algebra.{Algebra, Laws, Value}
 use Rattle.meaning.specs.Member.{In}

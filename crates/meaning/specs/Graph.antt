@@ -1,5 +1,5 @@
 -- Graphs of nodes and edges, and the systems of equations that they stand for.
-use Rattle.std.specs.Prelude.{◌≡◌, ℕ, ◌<◌, ◌≤◌, Bool, true, false, List, [], length, slice_index_or}
+use Rattle.std.specs.Prelude.{◌≡◌, ℕ, ◌<◌, ◌≤◌, true, List, length, slice_index_or}
 use Rattle.records.specs.declared.Edge.{Edge}
 use Rattle.records.specs.declared.Guard.{Guard}
 use Rattle.records.specs.declared.Guard.TheVariants.{Plain, By}

@@ -1,5 +1,5 @@
 -- Networks of processes: places, rules, global states, and how a rule leads from one to the next.
-use Rattle.std.specs.Prelude.{◌≡◌, ℕ, zero, suc, ◌<◌, Bool, true, false, cond, not, ◌&&◌, List, [], ◌∷◌, ◌==◌, ◌≢◌, slice_index_or}
+use Rattle.std.specs.Prelude.{◌≡◌, ℕ, zero, suc, ◌<◌, Bool, true, false, cond, ◌&&◌, List, [], ◌∷◌, ◌==◌, ◌≢◌, slice_index_or}
 use Rattle.process.specs.Lts.{Lts}
 use Rattle.process.specs.declared.Transition.{Transition}
 use Rattle.records.specs.Codes.{none, label, takes_part}

@@ -1,5 +1,5 @@
 -- The quotient of a graph by the process of one place: what is left to show of the other places.
-use Rattle.std.specs.Prelude.{ℕ, zero, suc, ◌+◌, ◌*◌, ◌/◌, ◌%◌, Bool, true, false, cond, not, ◌&&◌, ◌||◌, List, [], ◌∷◌, ◌++◌, map, ◌==◌, nat_eq}
+use Rattle.std.specs.Prelude.{ℕ, zero, suc, ◌+◌, ◌*◌, ◌/◌, ◌%◌, Bool, false, cond, not, ◌&&◌, ◌||◌, List, [], ◌∷◌, ◌++◌, map, ◌==◌, nat_eq}
 use Rattle.process.specs.Lts.{Lts}
 use Rattle.process.specs.declared.Transition.{Transition}
 use Rattle.records.specs.Codes.{takes_part}

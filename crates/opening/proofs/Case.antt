@@ -1,5 +1,5 @@
 -- What is known of a case file that was not refused.
-use Rattle.std.proofs.Common.{◌≡◌, ℕ, zero, suc, ◌+◌, ◌<◌, ◌≤◌, Bool, true, false, cond, ◌&&◌, eqb, leb, List, length, Option, None, sym, refl, ap, ◌∙◌, subst, arith}
+use Rattle.std.proofs.Common.{◌≡◌, ℕ, zero, suc, ◌<◌, Bool, true, cond, ◌&&◌, eqb, leb, List, length, Option, None, sym, refl, ap, ◌∙◌, subst, arith}
 use Rattle.std.proofs.lemmas.Bool.{and_from, le-leb, ne_eqb, not_from_false}
 use Rattle.fault.proofs.First.{first_later}
 use Rattle.fault.specs.declared.Fault.{Fault}
@@ -10,9 +10,7 @@ use Rattle.format.specs.declared.header.Header.{Header}
 use Rattle.casefile.specs.Refusal.{file_fault}
 use Rattle.casefile.proofs.Accepts.{accepted}
 use Rattle.meaning.specs.Check.{all}
-use Rattle.meaning.specs.Graph.{Graph}
 use Rattle.meaning.specs.Network.{Book}
-use Rattle.meaning.specs.Quotient.{any}
 use Rattle.book.specs.Model.{holds}
 use Rattle.book.specs.Parts.{has_part}
 use Rattle.book.proofs.Turns.{any_found}

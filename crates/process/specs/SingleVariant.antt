@@ -1,6 +1,6 @@
 -- What a process means when one variant alone is looked at.
 use Rattle.std.proofs.Common.{ap}
-use Rattle.std.specs.Prelude.{ℕ, ◌/◌, ◌%◌, ◌^◌, cond, List, map, nat_lt}
+use Rattle.std.specs.Prelude.{ℕ, ◌/◌, ◌%◌, ◌^◌, cond, map, nat_lt}
 use Rattle.process.specs.Lts.{Lts, Bounded}
 use Rattle.process.specs.declared.Transition.{Transition}
 

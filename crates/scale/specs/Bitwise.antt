@@ -1,5 +1,5 @@
 -- The bitwise operations of a code, one bit at a time: codes are equal when their bits are, so the laws are those of single bits.
-use Rattle.std.specs.Prelude.{◌≡◌, ℕ, zero, suc, ◌+◌, ◌-◌, ◌*◌, ◌/◌, ◌%◌, ◌^◌, ◌<◌, ◌≤◌, min, max, count_ones}
+use Rattle.std.specs.Prelude.{◌≡◌, ℕ, zero, suc, ◌+◌, ◌-◌, ◌/◌, ◌%◌, ◌^◌, ◌<◌, ◌≤◌, min, max, count_ones}
 use Rattle.std.proofs.Common.{sym, ap, ◌∙◌, pow-suc, one-add, arith, pow_mono, shr-shr}
 use Rattle.std.specs.Int.Bits.{bit_and, bit_or, and_step, or_step, and_lt}
 use Rattle.std.proofs.lemmas.Nat.{and_shr, or_shr, or_lt}

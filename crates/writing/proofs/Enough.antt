@@ -1,5 +1,5 @@
 -- What it means that there is room for a graph.
-use Rattle.std.proofs.Common.{◌≡◌, ℕ, ◌≤◌, ◌||◌, ltb, length, None}
+use Rattle.std.proofs.Common.{◌≡◌, ℕ, ◌≤◌, ltb, length, None}
 use Rattle.std.proofs.lemmas.Bool.{ltb-false, or_parts}
 use Rattle.fault.specs.First.{flag}
 use Rattle.fault.specs.declared.Fault.TheVariants.{FewNodes, FewEdges}

@@ -1,13 +1,13 @@
 -- What is put into a memory piece by piece, and the rows of a graph one by one.
-use Rattle.std.proofs.Common.{◌≡◌, ℕ, zero, suc, ◌+◌, ◌-◌, ◌<◌, ◌≤◌, min, List, [], ◌∷◌, ◌++◌, map, length, get_or, take, drop, set, sym, refl, ap, ◌∙◌, subst, append_assoc, add-zero, zero-add, add-one, arith, length-append, length-drop, length-take}
+use Rattle.std.proofs.Common.{◌≡◌, ℕ, zero, suc, ◌+◌, ◌-◌, ◌<◌, ◌≤◌, List, [], ◌∷◌, ◌++◌, map, length, take, drop, set, sym, refl, ap, ◌∙◌, append_assoc, add-zero, zero-add, add-one, arith, length-append, length-drop}
 use Rattle.std.specs.List.{range_with_len}
 use Rattle.std.proofs.lemmas.List.FromFn.{map-range_with_len_more, length-map-range_with_len}
-use Rattle.std.proofs.lemmas.List.{append-nil, take-append-drop, take_at, drop_at, drop-drop, drop_more, set_at, set_split, take-append-le, drop-append-le, length-take-le}
+use Rattle.std.proofs.lemmas.List.{append-nil, take-append-drop, take_at, drop_at, drop-drop, set_split, length-take-le}
 use Rattle.records.specs.declared.Edge.{Edge}
 use Rattle.records.specs.declared.Node.{Node}
 use Rattle.meaning.specs.Graph.{Graph}
 use Rattle.meaning.specs.Quotient.{gathered}
-use Rattle.calls.specs.Memory.{edges_before, node_row, node_rows, edge_rows, over}
+use Rattle.calls.specs.Memory.{edges_before, node_row, edge_rows, over}
 use Rattle.writing.specs.Filled.{filled, row}
 
 module _ {X : Type 0} where

@@ -1,5 +1,5 @@
 -- Eight places and more have every bit of the places left.
-use Rattle.std.proofs.Common.{◌≡◌, ◌^◌, ◌≤◌, arith, pow_mono, sym, ◌∙◌}
+use Rattle.std.proofs.Common.{◌^◌, ◌≤◌, arith, pow_mono, sym, ◌∙◌}
 use Rattle.std.proofs.lemmas.Bool.{le-leb, lt-ltb}
 use Rattle.fit.proofs.left_fits.Goals as goal
 

@@ -1,4 +1,4 @@
-use Rattle.std.proofs.Common.{◌≡◌, ap, arith}
+use Rattle.std.proofs.Common.{ap, arith}
 use Rattle.fault.proofs.First.{earliest_none, earliest_more, earliest_found, passed_up}
 use Rattle.casefile.proofs.checks.check_edges_of.Goals as goal
 

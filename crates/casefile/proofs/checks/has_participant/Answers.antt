@@ -1,4 +1,4 @@
-use Rattle.std.proofs.Common.{is_some, sym, ap, ◌∙◌, arith}
+use Rattle.std.proofs.Common.{is_some, sym, ap, ◌∙◌}
 use Rattle.std.proofs.lemmas.Bool.{eq-eqb, ne_eqb, not_from_true, not_from_false}
 use Rattle.fault.proofs.First.{flag_off, flag_on, earliest_none, earliest_more, earliest_found}
 use Rattle.casefile.proofs.checks.has_participant.Goals as goal

@@ -1,8 +1,7 @@
-use Rattle.std.proofs.Common.{◌≡◌, Some, length, sym, refl, ap, ◌∙◌}
+use Rattle.std.proofs.Common.{◌≡◌, Some, length, ap, ◌∙◌}
 use Rattle.book.specs.Model.{model}
 use Rattle.calls.specs.Memory.{Memory, node_rows, edge_rows, over, written}
-use Rattle.calls.specs.Opening.{book_in, book_of, formula_in, formula_graph}
-use Rattle.calls.specs.Outcome.{opened}
+use Rattle.calls.specs.Opening.{book_of, formula_in, formula_graph}
 use Rattle.calls.specs.declared.remainder.Remainder.{Remainder}
 use Rattle.meaning.specs.Network.{Book}
 use Rattle.fault.proofs.First.{passed_up}

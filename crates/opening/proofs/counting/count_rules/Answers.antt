@@ -1,7 +1,7 @@
-use Rattle.std.proofs.Common.{◌≡◌, sym, ap, ◌∙◌, arith}
+use Rattle.std.proofs.Common.{sym, ◌∙◌, arith}
 use Rattle.std.proofs.lemmas.Bool.{eq-eqb, ne_eqb}
 use Rattle.format.specs.Layout.{rule_row}
-use Rattle.opening.proofs.Ruled.{so_far, counted_one, counted_none}
+use Rattle.opening.proofs.Ruled.{counted_one, counted_none}
 use Rattle.opening.proofs.counting.count_rules.Goals as goal
 use Rattle.opening.proofs.counting.count_rules.Goals.{then-label, else-label}
 

@@ -1,4 +1,4 @@
-use Rattle.std.proofs.Common.{◌≡◌, length, sym, ap, ◌∙◌, arith}
+use Rattle.std.proofs.Common.{length, sym, ap, ◌∙◌, arith}
 use Rattle.format.specs.Layout.{edge_row}
 use Rattle.calls.specs.Opening.{book_in, rules_for}
 use Rattle.opening.proofs.Ruled.{size_plain, size_ruled}

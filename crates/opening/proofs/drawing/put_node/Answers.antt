@@ -1,7 +1,7 @@
-use Rattle.std.proofs.Common.{◌≡◌, ◌+◌, ◌^◌, ◌<◌, ◌≤◌, length, sym, ap, ◌∙◌, arith}
+use Rattle.std.proofs.Common.{◌≡◌, ◌+◌, ◌≤◌, length, sym, ap, ◌∙◌, arith}
 use Rattle.std.specs.List.{range_with_len}
 use Rattle.std.proofs.lemmas.List.FromFn.{length-map-range_with_len}
-use Rattle.format.specs.Layout.{node_row, rule_row}
+use Rattle.format.specs.Layout.{rule_row}
 use Rattle.meaning.specs.Quotient.{gathered}
 use Rattle.calls.specs.Opening.{opened_edge}
 use Rattle.writing.specs.Filled.{filled}

@@ -1,4 +1,4 @@
-use Rattle.std.proofs.Common.{◌≡◌, ◌+◌, ◌≤◌, [], ◌∷◌, sym, ap, ◌∙◌, arith}
+use Rattle.std.proofs.Common.{◌+◌, [], ◌∷◌, sym, ap, ◌∙◌, arith}
 use Rattle.writing.specs.Filled.{filled}
 use Rattle.opening.proofs.Ruled.{size_plain, size_ruled, opened_plain, opened_ruled}
 use Rattle.opening.proofs.drawing.put_opened.Goals as goal

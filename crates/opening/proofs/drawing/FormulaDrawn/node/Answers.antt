@@ -1,4 +1,4 @@
-use Rattle.std.proofs.Common.{◌≡◌, ap, arith}
+use Rattle.std.proofs.Common.{ap, arith}
 use Rattle.records.specs.declared.Node.{Node}
 use Rattle.opening.proofs.drawing.FormulaDrawn.node.Goals as goal
 
