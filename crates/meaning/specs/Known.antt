@@ -104,11 +104,11 @@ session = record {
 abbrev pub self_loop : Sign → Case
 self_loop sign = record { rules = []; sign = sign; processes = turns ∷ []; nodes = any_of (plain 1 0 ∷ []) ∷ [] }
 
--- one transition of weight 6, under any_of to the highest
+-- one transition of weight 6, under any-of to the highest
 abbrev pub weight_any : Case
 weight_any = record { rules = rule 1 none 1 ∷ []; sign = Least; processes = loop 6 ∷ []; nodes = any_of (guarded 0 top 1 ∷ []) ∷ fixed top ∷ [] }
 
--- and under all_of to the lowest
+-- and under all-of to the lowest
 abbrev pub weight_all : Case
 weight_all = record { rules = rule 1 none 1 ∷ []; sign = Least; processes = loop 6 ∷ []; nodes = all_of (guarded 0 top 1 ∷ []) ∷ fixed 0 ∷ [] }
 
