@@ -1,12 +1,16 @@
 // Refusals: every way in which a call can say no, with its number, layer and positions.
 #![tactic(auto)]
 
-ghost use Rattle.std.specs.Prelude.{◌≡◌, IfOk, string_bytes};
+ghost use Rattle.std.specs.Prelude.{◌≡◌, ℕ, Some, IfOk, string_bytes, Option};
+ghost use Rattle.fault.specs.Each.{Below, Each};
+ghost use Rattle.fault.specs.First.{earliest, Passes};
 ghost use Rattle.fault.specs.Fault.{number, layer, first, second, byte_in_table};
-ghost use Rattle.fault.specs.Line.{refused_line};
+ghost use Rattle.fault.specs.Line.{refused, refused_line};
 ghost use Rattle.fault.specs.declared.Fault.TheVariants.{Table};
 
 use std::alloc::{AllocError, Global};
+use std::error::Error;
+use std::fmt;
 
 // The part of the input or of the state that a fault is in.
 #[derive(Clone, Copy, PartialEq, Debug)]
@@ -145,7 +149,7 @@ impl Fault {
         }
     }
 
-    // The first position, 0 where the fault names none.
+    // The first position, 0 where the fault names none, as its line prints it.
     pub fn first(&self) -> u64
         ensures { result ≡ first self.now }
     {
@@ -164,7 +168,7 @@ impl Fault {
         }
     }
 
-    // The second position, 0 where the fault names none.
+    // The second position, likewise.
     pub fn second(&self) -> u64
         ensures { result ≡ second self.now }
     {
@@ -176,12 +180,35 @@ impl Fault {
     }
 
     // The line that a program prints for the refusal.
-    pub fn line(&self, heap: Global) -> Result<String, AllocError>
+    pub fn line(&self, alloc: Global) -> Result<String, AllocError>
         ensures { IfOk result (λ t. string_bytes t ≡ refused_line self.now) }
     {
+        format!(in alloc; "{self}\n")
+    }
+}
+
+// What a program prints for the refusal.
+impl fmt::Display for Fault {
+    ghost output = { λ f. Some (refused f) };
+
+    fn fmt<W: fmt::Write>(&self, f: &mut fmt::Formatter<W>) -> fmt::Result {
         let number = self.number();
         let first = self.first();
         let second = self.second();
-        format!(in heap; "refused {number} {first} {second}\n")
+        write!(f, "refused {number} {first} {second}")
     }
+}
+
+impl Error for Fault {}
+
+// Checks the positions below n in their order, up to the first that is at fault.
+pub fn check_each<E: Drop, F: Fn(u32) -> Result<(), E>>(n: u32, check: F) -> Result<(), E>
+    requires { Below n (F.pre check) }
+    ensures { (due : ℕ → Option E) → Each n (F.post check) (λ i r. Passes (due i) r) → Passes (earliest n due) result }
+{
+    // the positions in their order
+    for i in 0..n {
+        check(i)?;
+    }
+    Ok(())
 }

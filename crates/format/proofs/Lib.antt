@@ -1,5 +1,6 @@
 -- The lemmas of the format.
 pub mod Reading
+pub mod Filled
 pub mod Listed
 pub mod Offsets
 pub mod Tables

@@ -6,6 +6,7 @@ use crate::bytes::{byte, eight, four, tail, two};
 use crate::header::Header;
 use crate::table::Table;
 use records::{Kind, NONE, Node, Rule, Sign};
+use std::array;
 
 // An edge of the formula: plain where its label is `NONE`.
 #[derive(Clone, Copy, PartialEq, Debug)]
@@ -14,7 +15,8 @@ pub struct FormulaEdge {
     pub target: u32,
 }
 
-// The bytes of a case file with the header that they are read by; every answer is read from the bytes anew.
+// The bytes of a case file with the header that they are read by; every answer is read from the bytes anew. Clauses
+// name both, since the definitions speak of any bytes and any header that they are read by.
 #[derive(Clone, Copy)]
 pub struct CaseFile<'a> {
     pub bytes: &'a [u8],
@@ -43,13 +45,8 @@ impl<'a> CaseFile<'a> {
     pub fn rule(&self, r: u16) -> Rule
         ensures { result ≡ rule_row self.now.bytes.now self.now.header r }
     {
-        let mut labels = [NONE; 8];
-        // what each of the eight places is asked
-        for place in 0..8 {
-            labels[place as usize] = self.asked(r, place);
-        }
         Rule {
-            labels,
+            labels: array::from_fn(|place| self.asked(r, place as u8)),
             result: self.label(r, self.header.places),
         }
     }

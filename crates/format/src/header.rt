@@ -35,6 +35,7 @@ impl Header {
     }
 
     // Where rule `r` begins.
+    #[tactic(auto, unfolding(crate::specs::Layout::rule_at), using(crate::proofs::Offsets::rows_small))]
     pub(crate) fn rule_at(self, r: u16) -> usize
         ensures at { result ≡ rule_at self r }
         ensures small { result < 2 ^ 25 }
@@ -43,6 +44,7 @@ impl Header {
     }
 
     // Where block `b` begins.
+    #[tactic(auto, unfolding(crate::specs::Layout::block_at))]
     pub(crate) fn block_at(self, b: u8) -> usize
         ensures at { result ≡ block_at self b }
         ensures small { result < 2 ^ 26 }
@@ -51,6 +53,7 @@ impl Header {
     }
 
     // Where node `i` begins.
+    #[tactic(auto, unfolding(crate::specs::Layout::node_at))]
     pub(crate) fn node_at(self, i: u16) -> usize
         ensures at { result ≡ node_at self i }
         ensures small { result < 2 ^ 27 }
@@ -59,6 +62,7 @@ impl Header {
     }
 
     // Where edge `e` begins.
+    #[tactic(auto, unfolding(crate::specs::Layout::edge_at))]
     pub(crate) fn edge_at(self, e: u16) -> usize
         ensures at { result ≡ edge_at self e }
         ensures small { result < 2 ^ 28 }

@@ -1,4 +1,5 @@
 -- Lemmas on the meaning.
+pub mod Listed
 pub mod Order
 pub mod Unique
 pub mod Transfer

@@ -1,5 +1,5 @@
 -- Small cases whose values are known.
-use Rattle.std.specs.Prelude.{ℕ, ◌-◌, ◌^◌, List, [], ◌∷◌, length, get_or, nat_lt, slice_index_or}
+use Rattle.std.specs.Prelude.{ℕ, ◌-◌, ◌^◌, List, [], ◌∷◌, length, nat_lt, slice_index_or}
 use Rattle.process.specs.Lts.{Lts}
 use Rattle.process.specs.Pool.{pool}
 use Rattle.process.specs.declared.Transition.{Transition}
@@ -53,10 +53,10 @@ abbrev pub graph : List Vertex → Graph
 graph nodes = record {
   nodes = length nodes;
   initial = 0;
-  kind = λ q. (get_or nodes q (fixed 0)).kind;
+  kind = λ q. (slice_index_or nodes q (fixed 0)).kind;
   block = λ q. 0;
-  value = λ q. (get_or nodes q (fixed 0)).value;
-  edges = λ q. (get_or nodes q (fixed 0)).edges;
+  value = λ q. (slice_index_or nodes q (fixed 0)).value;
+  edges = λ q. (slice_index_or nodes q (fixed 0)).edges;
 }
 
 -- A case: its rules, the sign of block 0, the processes at its places, and the nodes of its graph.

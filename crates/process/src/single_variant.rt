@@ -39,8 +39,7 @@ impl<P: Process> SingleVariant<P> {
     fn seen(&self, s: u32, e: u32) -> Option<Transition>
         ensures { result ≡ option_map (cut_transition self.now.variant) (slice_get ((P.Process.meaning self.now.process).transitions s) e) }
     {
-        let t = self.process.transition(s, e)?;
-        Some(cut(self.variant, t))
+        self.process.transition(s, e).map(|t| cut(self.variant, t))
     }
 }
 

@@ -1,2 +1,3 @@
 -- The definitions that the contracts of the shared records cite.
 pub mod Codes
+pub mod Words

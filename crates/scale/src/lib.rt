@@ -15,20 +15,15 @@ pub use yes_no::YesNo;
 pub trait Scale {
     ghost algebra: { Algebra };
 
-    // the number by which the header of a case file names the scale
-    ghost header: { ℕ };
-
+    // the highest rank
     const HEIGHT: u8;
 
+    ghost HEIGHT: { ℕ };
+
+    // the number by which the header of a case file names the scale
     const NUMBER: u32;
 
-    // `HEIGHT`, tied to the algebra.
-    fn top_rank() -> u8
-        ensures { result ≡ algebra.height };
-
-    // `NUMBER`, tied to the meaning.
-    fn header_number() -> u32
-        ensures { result ≡ header };
+    ghost NUMBER: { ℕ };
 
     fn is_value(x: u64) -> bool
         ensures { result ≡ algebra.value x };
@@ -50,6 +45,8 @@ pub trait Scale {
 
     fn rank(x: u64) -> u8
         ensures { result ≡ algebra.rank x };
+
+    ghost height_is: { HEIGHT ≡ algebra.height };
 
     ghost lawful: { Laws algebra };
 }

@@ -1,30 +1,27 @@
 // The variants scale: every code is a value, and bit v stands for kernel variant v.
+ghost use Rattle.std.specs.Prelude.{refl};
 ghost use Rattle.scale.specs.Variants.{variants};
 ghost use Rattle.scale.specs.Laws.{variants_laws};
 
 use crate::Scale;
 
 #[derive(Clone, Copy)]
-pub struct Variants {}
+pub struct Variants;
 
 impl Scale for Variants {
     ghost algebra = { variants };
 
-    ghost header = { 1 };
-
     const HEIGHT: u8 = 64;
+
+    ghost HEIGHT = { 64 };
 
     const NUMBER: u32 = 1;
 
+    ghost NUMBER = { 1 };
+
+    ghost height_is = { refl };
+
     ghost lawful = { variants_laws };
-
-    fn top_rank() -> u8 {
-        Self::HEIGHT
-    }
-
-    fn header_number() -> u32 {
-        Self::NUMBER
-    }
 
     fn is_value(_x: u64) -> bool {
         true

@@ -1,30 +1,27 @@
 // The yes/no scale: code 0 is no, the lowest, and code 1 yes.
+ghost use Rattle.std.specs.Prelude.{refl};
 ghost use Rattle.scale.specs.YesNo.{yes_no};
 ghost use Rattle.scale.specs.Laws.{yes_no_laws};
 
 use crate::Scale;
 
 #[derive(Clone, Copy)]
-pub struct YesNo {}
+pub struct YesNo;
 
 impl Scale for YesNo {
     ghost algebra = { yes_no };
 
-    ghost header = { 0 };
-
     const HEIGHT: u8 = 1;
+
+    ghost HEIGHT = { 1 };
 
     const NUMBER: u32 = 0;
 
+    ghost NUMBER = { 0 };
+
+    ghost height_is = { refl };
+
     ghost lawful = { yes_no_laws };
-
-    fn top_rank() -> u8 {
-        Self::HEIGHT
-    }
-
-    fn header_number() -> u32 {
-        Self::NUMBER
-    }
 
     fn is_value(x: u64) -> bool {
         x < 2

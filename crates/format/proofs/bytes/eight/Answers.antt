@@ -1,13 +1,10 @@
-use Rattle.std.proofs.Common.{arith}
-use Rattle.format.specs.Bytes.{eight}
-use Rattle.format.proofs.Reading.{four_at, four_tail}
+use Rattle.std.proofs.Common.{◌≡◌, ◌∙◌, drop, refl, rules}
+use Rattle.format.specs.Bytes.{two, four, eight}
+use Rattle.format.proofs.Reading.{eight_at}
 use Rattle.format.proofs.bytes.eight.Goals as goal
 
 pub returns : goal.returns
-unfolding eight
+unfolding two four eight
 returns c =
-    omega (
-      arith,
-      four_at c.args.bytes.now _ c.args.at c.tail-rest.ensures,
-      four_tail c.args.bytes.now _ c.args.at 4 c.tail-rest.ensures,
-    )
+    let read : c.from_le_bytes.result ≡ eight (drop c.args.at c.args.bytes.now) 0 = search rules in
+    read ∙ eight_at c.args.bytes.now _ c.args.at refl

@@ -1,5 +1,4 @@
 use Rattle.std.proofs.Common.{Some, sym, ap, ◌∙◌, arith}
-use Rattle.std.proofs.lemmas.Option.{slice_get_past}
 use Rattle.format.specs.Table.{transition_row}
 use Rattle.format.proofs.Listed.{listed_at}
 use Rattle.format.proofs.table.TableProcess.transition.Goals as goal
@@ -9,6 +8,3 @@ returns-then-e-count c =
     let t = c.args.self.now.bytes.now in
     ap Some (c.row.ensures ∙ ap (transition_row t) (omega arith))
     ∙ sym (listed_at t c.args.s c.args.e (omega arith))
-
-pub returns-else-e-count : goal.returns-else-e-count
-returns-else-e-count c = sym (slice_get_past _ c.args.e (omega arith))

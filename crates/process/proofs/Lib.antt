@@ -1,2 +1,0 @@
--- Lemmas on processes.
-pub mod Nth

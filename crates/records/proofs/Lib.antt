@@ -1,0 +1,2 @@
+-- The lemmas of the shared records.
+pub mod Codes
