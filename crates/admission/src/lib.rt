@@ -7,7 +7,7 @@ ghost use Rattle.fault.specs.First.{flag, earliest, Passes};
 ghost use Rattle.fault.specs.declared.Fault.TheVariants.{Shape};
 ghost use Rattle.calls.specs.Process.{shape_fault, step_wrong, step_fault, process_fault};
 
-use fault::Fault;
+use fault::{Fault, check_each};
 use process::Process;
 use records::NONE;
 use scale::Scale;
@@ -32,11 +32,7 @@ fn check_count<P: Process>(process: &P, state: u32) -> Result<(), Fault>
 fn check_counts<P: Process>(process: &P) -> Result<(), Fault>
     ensures { Passes (earliest (P.Process.meaning process.now).states (λ s. flag (nat_lt 65535 (length ((P.Process.meaning process.now).transitions s))) (Shape s))) result }
 {
-    // the states in their order
-    for state in 0..process.states() {
-        check_count(process, state)?;
-    }
-    Ok(())
+    check_each(process.states(), |state| check_count(process, state))
 }
 
 // There are states, but not too many, the initial state is one, and none has too many transitions.
@@ -70,21 +66,19 @@ fn check_step<S: Scale, P: Process>(process: &P, state: u32, e: u32) -> Result<(
 fn check_steps_of<S: Scale, P: Process>(process: &P, state: u32) -> Result<(), Fault>
     ensures { Passes (earliest (length ((P.Process.meaning process.now).transitions state)) (λ e. step_wrong S.Scale.algebra (P.Process.meaning process.now) state e (slice_get ((P.Process.meaning process.now).transitions state) e))) result }
 {
-    // the state's transitions in their order
-    for e in 0..process.count(state) {
-        check_step::<S, P>(process, state, e)?;
-    }
-    Ok(())
+    check_each(
+        process.count(state),
+        |e| check_step::<S, P>(process, state, e),
+    )
 }
 
 fn check_steps<S: Scale, P: Process>(process: &P) -> Result<(), Fault>
     ensures { Passes (step_fault S.Scale.algebra (P.Process.meaning process.now)) result }
 {
-    // the states in their order
-    for state in 0..process.states() {
-        check_steps_of::<S, P>(process, state)?;
-    }
-    Ok(())
+    check_each(
+        process.states(),
+        |state| check_steps_of::<S, P>(process, state),
+    )
 }
 
 // Whether the process can be taken in; otherwise the first fault in it.

@@ -2,6 +2,7 @@
 // Each function here stands for one part of the promise: its contract is the statement.
 #![tactic(auto)]
 
+mod memories;
 mod remainder;
 
 ghost use Rattle.calls.specs.Again.{FitsAgain};
@@ -10,6 +11,7 @@ ghost use Rattle.calls.specs.Exist.{OutcomesExist};
 ghost use Rattle.calls.specs.NotEmpty.{EveryOrderReaches};
 ghost use Rattle.calls.specs.Promise.{VerdictIsValue, VariantIsJudged, OrderDoesNotMatter};
 
+pub use memories::Memories;
 pub use remainder::{Closed, Refusal, Remainder};
 
 // A verdict given after any list of calls is the formula's value on the whole network.

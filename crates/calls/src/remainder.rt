@@ -2,7 +2,8 @@
 use fault::Fault;
 
 // A graph of `nodes` nodes and `edges` edges in memory, its initial node, and the places that are left, bit p for
-// place p. A call takes it and gives its successor, or hands it back.
+// place p. A call takes it and gives its successor, or hands it back. Numbers beside memory that is lent at each call,
+// since a remainder owns none.
 #[derive(Drop)]
 pub struct Remainder {
     pub nodes: u32,

@@ -1,14 +1,39 @@
 -- The rules and the edges of a case file: a check finds nothing exactly where its rule is kept.
-use Rattle.std.proofs.Common.{◌≡◌, ℕ, ◌+◌, ◌-◌, ◌<◌, Bool, true, false, not, eqb, List, is_some, Some, None, Option, sym, refl, ap, ◌∙◌, subst, arith}
+use Rattle.std.proofs.Common.{◌≡◌, ℕ, zero, suc, zero-add, ap₂, ◌||◌, ◌+◌, ◌-◌, ◌<◌, Bool, true, false, not, eqb, List, is_some, Some, None, Option, sym, refl, ap, ◌∙◌, subst, arith}
+use Rattle.std.specs.List.{list_any, range_with_len}
 use Rattle.std.proofs.lemmas.Bool.{true≢false, or_from, or_parts, and_parts, not-true, not-false, not_from_true, not_from_false, leb-true, ltb-true, ltb-false, lt-ltb, le-ltb, eqb-true, eqb-false, eq-eqb, ne_eqb}
 use Rattle.records.specs.Codes.{none}
-use Rattle.fault.specs.First.{flag, earliest}
+use Rattle.fault.specs.First.{flag, or_else, earliest}
 use Rattle.format.specs.Layout.{rule_label, rule_result, node_row}
 use Rattle.casefile.specs.Refusal.{participant, has_participant, rule_fault, LaidOut, owns, owner, owner_wrong, owned_fault, edge_fault}
 use Rattle.casefile.specs.WellFormed.{FineRule, Owner, FineEdge}
 use Rattle.format.specs.declared.header.Header.{Header}
-use Rattle.fault.proofs.First.{flag_off, flag_on, flag_failed, earliest_at, earliest_from}
+use Rattle.fault.proofs.First.{flag_off, flag_on, flag_failed, earliest_at, earliest_from, earliest_parts}
 use Rattle.casefile.proofs.Ranges.{owner_of}
+
+some_or : {X : Type 0} (o p : Option X) → is_some (or_else o p) ≡ (is_some o || is_some p)
+some_or (Some x) p = refl
+some_or None p = refl
+
+some_flag : {X : Type 0} (b : Bool) (x : X) → is_some (flag b x) ≡ b
+some_flag true x = refl
+some_flag false x = refl
+
+any_from : {X : Type 0} (test : ℕ → Bool) (f : ℕ → Option X) (a n : ℕ) → ((p : ℕ) → is_some (f p) ≡ test (a + p))
+    → list_any test (range_with_len a n) ≡ is_some (earliest n f)
+unfolding earliest
+any_from test f a zero h = refl
+any_from test f a (suc n) h =
+    let e : suc n ≡ 1 + n = omega arith in
+    let at : a ≡ a + 0 = omega arith in
+    let later : (p : ℕ) → a + (1 + p) ≡ a + 1 + p = λ p. omega arith in
+    let rest = any_from test (λ p. f (1 + p)) (a + 1) n (λ p. h (1 + p) ∙ ap test (later p)) in
+    ap₂ (λ b c. b || c) (ap test at ∙ sym (h 0)) rest
+    ∙ sym (ap (λ m. is_some (earliest m f)) e ∙ ap is_some (earliest_parts f 1 n) ∙ some_or (f 0) _)
+
+-- one of the positions passes the test exactly where a first one is found
+pub any_found : (test : ℕ → Bool) (n : ℕ) → list_any test (range_with_len 0 n) ≡ is_some (earliest n (λ p. flag (test p) p))
+any_found test n = any_from test _ 0 n (λ p. rw zero-add (some_flag (test p) p))
 
 -- a flag that is raised
 flagged : {X : Type 0} (b : Bool) (x y : X) → flag b x ≡ Some y → (b ≡ true) × (x ≡ y)

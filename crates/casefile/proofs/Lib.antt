@@ -1,4 +1,5 @@
 -- The lemmas of the case file.
+pub mod Codes
 pub mod Ranges
 pub mod Tables
 pub mod Fine

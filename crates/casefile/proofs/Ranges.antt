@@ -1,5 +1,5 @@
 -- The edges in the ranges of their nodes: ranges that follow one another own every edge up to the last one's end.
-use Rattle.std.proofs.Common.{◌≡◌, ℕ, zero, suc, ◌+◌, ◌-◌, ◌<◌, ◌≤◌, List, Some, None, sym, refl, ap, ◌∙◌, ap₂, zero-le, le_refl, zero-add, add-one, arith}
+use Rattle.std.proofs.Common.{◌≡◌, ℕ, zero, suc, ◌+◌, ◌-◌, ◌<◌, ◌≤◌, List, Some, None, refl, ap, ◌∙◌, ap₂, zero-le, le_refl, zero-add, add-one, arith}
 use Rattle.std.proofs.lemmas.Bool.{cond-false, ne_eqb, le-ltb, lt-ltb, le-leb, and_right, and_from, or_right}
 use Rattle.fault.specs.declared.Fault.{Fault}
 use Rattle.fault.specs.declared.Fault.TheVariants.{Edge}
@@ -7,7 +7,7 @@ use Rattle.fault.specs.First.{flag, or_else, earliest}
 use Rattle.format.specs.Layout.{node_row}
 use Rattle.casefile.specs.Refusal.{due, LaidOut, owns, owner, owned_fault, own_fault, edge_fault}
 use Rattle.format.specs.declared.header.Header.{Header}
-use Rattle.fault.proofs.First.{flag_off, flag_on, first_later, earliest_all, earliest_found, earliest_past, earliest_parts, earliest_same}
+use Rattle.fault.proofs.First.{flag_off, flag_on, earliest_all, earliest_found, earliest_past, earliest_parts, earliest_same}
 
 -- the next node's edges are due where this one's end
 pub due_next : (bs : List ℕ) (h : Header) (i : ℕ) → due bs h (i + 1) ≡ (node_row bs h i).first + (node_row bs h i).count
@@ -63,21 +63,29 @@ own_edges bs h l i b =
     ∙ ap₂ or_else (ap (λ d. earliest d (edge_fault bs h)) (l.follows i b))
     (earliest_same _ _ n.count (λ k m. ap (λ o. owned_fault bs h o (n.first + k)) (owner_of bs h l i k b m)))
 
-pub edges_more : (bs : List ℕ) (h : Header) → LaidOut bs h → (i : ℕ) → i < h.nodes
-    → earliest (due bs h i) (edge_fault bs h) ≡ None → own_fault bs h i ≡ None → earliest (due bs h (i + 1)) (edge_fault bs h) ≡ None
-edges_more bs h l i b before own = own_edges bs h l i b ∙ first_later _ _ before own
+-- the edges up to where a node's are due, node by node
+by_node : (bs : List ℕ) (h : Header) → LaidOut bs h → (i : ℕ) → i ≤ h.nodes → earliest (due bs h i) (edge_fault bs h) ≡ earliest i (own_fault bs h)
+unfolding earliest
+by_node bs h l zero k = refl
+by_node bs h l (suc i) k =
+    rw (← add-one i) (own_edges bs h l i (omega arith))
+    ∙ ap (λ o. or_else o (own_fault bs h i)) (by_node bs h l i (omega arith))
 
-pub edges_found : (bs : List ℕ) (h : Header) → LaidOut bs h → (i : ℕ) (x : Fault) → i < h.nodes
-    → earliest (due bs h i) (edge_fault bs h) ≡ None → own_fault bs h i ≡ Some x → earliest h.edges (edge_fault bs h) ≡ Some x
-edges_found bs h l i x b before own =
-    earliest_past (edge_fault bs h) x (due bs h (i + 1)) h.edges
-    (own_edges bs h l i b ∙ first_later _ _ before own) (due_within bs h l (i + 1) (omega arith))
+pub edges_found : (bs : List ℕ) (h : Header) → LaidOut bs h → (x : Fault) → earliest h.nodes (own_fault bs h) ≡ Some x → earliest h.edges (edge_fault bs h) ≡ Some x
+edges_found bs h l x own =
+    earliest_past (edge_fault bs h) x (due bs h h.nodes) h.edges (by_node bs h l h.nodes (le_refl _) ∙ own) (due_within bs h l h.nodes (le_refl _))
 
--- after the last node i: the first edge behind its range has no owner
-pub edges_left : (bs : List ℕ) (h : Header) → LaidOut bs h → (i e : ℕ) → i ≡ h.nodes → e ≡ due bs h h.nodes
-    → earliest (due bs h i) (edge_fault bs h) ≡ None → e < h.edges → earliest h.edges (edge_fault bs h) ≡ Some (Edge e)
-edges_left bs h l i e last end before b =
-    let reached : earliest e (edge_fault bs h) ≡ None = ap (λ d. earliest d (edge_fault bs h)) (end ∙ ap (due bs h) (sym last)) ∙ before in
+pub edges_none : (bs : List ℕ) (h : Header) → LaidOut bs h → (e : ℕ) → e ≡ due bs h h.nodes → h.edges ≤ e
+    → earliest h.nodes (own_fault bs h) ≡ None → earliest h.edges (edge_fault bs h) ≡ None
+edges_none bs h l e end all own =
+    let same : h.edges ≡ due bs h h.nodes = omega (arith, due_within bs h l h.nodes (le_refl _)) in
+    ap (λ d. earliest d (edge_fault bs h)) same ∙ by_node bs h l h.nodes (le_refl _) ∙ own
+
+-- after the last node: the first edge behind its range has no owner
+pub edges_left : (bs : List ℕ) (h : Header) → LaidOut bs h → (e : ℕ) → e ≡ due bs h h.nodes → e < h.edges
+    → earliest h.nodes (own_fault bs h) ≡ None → earliest h.edges (edge_fault bs h) ≡ Some (Edge e)
+edges_left bs h l e end b own =
+    let reached : earliest e (edge_fault bs h) ≡ None = ap (λ d. earliest d (edge_fault bs h)) end ∙ by_node bs h l h.nodes (le_refl _) ∙ own in
     let alone : owner bs h e ≡ None = unowned_before bs h l h.nodes e (le_refl _) (omega arith) in
     let fault : edge_fault bs h e ≡ Some (Edge e) = ap (λ o. owned_fault bs h o e) alone ∙ flag_on _ (or_right _ _ refl) in
     earliest_found _ e h.edges _ reached fault b

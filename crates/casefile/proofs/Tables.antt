@@ -1,14 +1,13 @@
 -- The tables one after another.
-use Rattle.std.proofs.Common.{◌≡◌, ℕ, ◌-◌, ◌≤◌, ◌||◌, eqb, ltb, List, Some, None, Ok, Err, Option, Result, sym, refl, ap, ◌∙◌, arith}
+use Rattle.std.proofs.Common.{◌≡◌, ℕ, ◌-◌, ◌≤◌, ◌||◌, eqb, ltb, List, Some, None, Option, refl, ap, ◌∙◌, arith}
 use Rattle.std.specs.Option.{option_map}
 use Rattle.std.proofs.lemmas.Bool.{ltb-false, or_parts}
 use Rattle.fault.specs.declared.Fault.TheVariants.{Table}
-use Rattle.fault.specs.declared.Placed.{Placed}
 use Rattle.fault.specs.declared.TableFault.{TableFault}
 use Rattle.fault.specs.declared.TableFault.TheVariants.{States, Transitions, CutOff}
-use Rattle.fault.specs.First.{flag, earliest, Passes}
+use Rattle.fault.specs.First.{flag, earliest}
 use Rattle.format.specs.Table.{states, transitions, table_from}
-use Rattle.casefile.specs.TableFault.{cut_off, counts_fault, table_fault, placed}
+use Rattle.casefile.specs.TableFault.{cut_off, counts_fault, table_fault}
 use Rattle.fault.proofs.First.{neither, flag_failed, earliest_at}
 
 -- a table without fault is small
@@ -25,21 +24,8 @@ pub placed_none : (p : ℕ) (o : Option TableFault) → option_map (Table p) o �
 placed_none p (Some f) h = let z : ◌≡◌ {A = ℕ} 0 1 = cc in absurd (omega arith)
 placed_none p None h = refl
 
--- what a check of table u with its place answers, u being read as t
-pub placed_fault : {T : Type 0} (p : ℕ) (g : List ℕ → Option TableFault) (t u : List ℕ) (r : Result T TableFault) (e : Placed) → t ≡ u → Passes (g t) r
-    → Err e ≡ placed p r → option_map (Table p) (g u) ≡ Some (Table e.place e.fault)
-placed_fault p g t u (Ok x) e s h k = let z : ◌≡◌ {A = ℕ} 0 1 = cc in absurd (omega arith)
-placed_fault p g t u (Err f) e s h k =
-    let same : e ≡ record { place = p; fault = f } = cc in
-    ap (λ v. option_map (Table p) (g v)) (sym s) ∙ ap (option_map (Table p)) h ∙ ap (λ q. Some (Table q.place q.fault)) (sym same)
-
-pub placed_fine : {T : Type 0} (p : ℕ) (g : List ℕ → Option TableFault) (t u : List ℕ) (r : Result T TableFault) (x : T) → t ≡ u → Passes (g t) r
-    → Ok x ≡ placed p r → option_map (Table p) (g u) ≡ None
-placed_fine p g t u (Ok y) x s h k = ap (λ v. option_map (Table p) (g v)) (sym s) ∙ ap (option_map (Table p)) h.0
-placed_fine p g t u (Err f) x s h k = let z : ◌≡◌ {A = ℕ} 0 1 = cc in absurd (omega arith)
-
 -- after the tables of all places, the last one is small
-pub last_small : (tables t : List ℕ) (i n : ℕ) → 1 ≤ n → n ≤ i → earliest i (λ p. option_map (Table p) (table_fault (table_from p tables))) ≡ None
+pub last_small : (tables t : List ℕ) (n : ℕ) → 1 ≤ n → earliest n (λ p. option_map (Table p) (table_fault (table_from p tables))) ≡ None
     → t ≡ table_from (n - 1) tables → (states t ≤ 4096) × (transitions t ≤ 16384)
-last_small tables t i n b l h e =
-    table_small t (ap table_fault e ∙ placed_none (n - 1) _ (earliest_at _ i (n - 1) h (omega arith)))
+last_small tables t n b h e =
+    table_small t (ap table_fault e ∙ placed_none (n - 1) _ (earliest_at _ n (n - 1) h (omega arith)))

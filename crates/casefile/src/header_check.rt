@@ -14,10 +14,10 @@ fn field(bytes: &[u8], byte: u8, low: u32, high: u32) -> Result<u32, Fault>
     ensures { Answers (flag (outside low high (four bytes.now byte)) (faults.Header byte)) (λ x. (x ≡ four bytes.now byte) × (x ≤ high)) result }
 {
     let x = header_field(bytes, byte);
-    if x < low || x > high {
-        Err(Fault::Header { byte })
-    } else {
+    if (low..=high).contains(&x) {
         Ok(x)
+    } else {
+        Err(Fault::Header { byte })
     }
 }
 

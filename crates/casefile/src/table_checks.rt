@@ -1,11 +1,11 @@
 // The checks of one table, field by field in file order.
 ghost use Rattle.std.specs.Prelude.{◌≡◌, ◌+◌, ◌<◌, ◌≤◌};
 ghost use Rattle.fault.specs.declared.TableFault.TheVariants as faults;
-ghost use Rattle.fault.specs.First.{flag, earliest, Passes};
+ghost use Rattle.fault.specs.First.{flag, earliest, Answers, Passes};
 ghost use Rattle.format.specs.Table.{states, transitions};
 ghost use Rattle.casefile.specs.TableFault.{cut_off, counts_fault, start_wrong, start_fault, transition_fault, table_fault, excess_fault, placed};
 
-use fault::{Placed, TableFault};
+use fault::{Placed, TableFault, check_each};
 use format::Table;
 use process::Process;
 
@@ -13,10 +13,7 @@ use process::Process;
 pub(crate) fn placed(place: u8, r: Result<(), TableFault>) -> Result<(), Placed>
     ensures { result ≡ placed place r }
 {
-    match r {
-        Ok(()) => Ok(()),
-        Err(fault) => Err(Placed { place, fault }),
-    }
+    r.map_err(|fault| Placed { place, fault })
 }
 
 // The field of `size` bytes that begins at `byte` ends within the file.
@@ -30,8 +27,17 @@ fn check_field(table: &Table, byte: u32, size: u32) -> Result<(), TableFault>
     }
 }
 
-fn check_counts(table: &Table) -> Result<(), TableFault>
-    ensures { Passes (counts_fault table.now.bytes.now) result }
+// A table whose numbers of states and of transitions are within their bounds.
+#[derive(Clone, Copy)]
+pub(crate) struct Counted<'a> {
+    pub(crate) table: Table<'a>,
+    ghost few: { states table.bytes.now ≤ 4096 },
+    ghost short: { transitions table.bytes.now ≤ 16384 },
+}
+
+// The table, once its three counts are right.
+fn check_counts<'a>(table: &Table<'a>) -> Result<Counted<'a>, TableFault>
+    ensures { Answers (counts_fault table.now.bytes.now) (λ c. c.table.bytes.now ≡ table.now.bytes.now) result }
 {
     check_field(table, 0, 4)?;
     let states = table.states();
@@ -46,7 +52,7 @@ fn check_counts(table: &Table) -> Result<(), TableFault>
     if table.initial() >= states {
         return Err(TableFault::Initial);
     }
-    Ok(())
+    Ok(Counted { table: *table })
 }
 
 // Starts begin at 0, never fall, and end at the number of transitions.
@@ -59,72 +65,61 @@ fn start_wrong(table: &Table, i: u32) -> bool
         || (i == table.states() && start != table.transitions())
 }
 
-fn check_start(table: &Table, i: u32) -> Result<(), TableFault>
-    requires { i ≤ 4096 }
-    ensures { Passes (start_fault table.now.bytes.now i) result }
-{
-    check_field(table, 12 + 4 * i, 4)?;
-    if start_wrong(table, i) {
-        Err(TableFault::Start { index: i as u16 })
-    } else {
-        Ok(())
+impl<'a> Counted<'a> {
+    fn check_start(&self, i: u32) -> Result<(), TableFault>
+        requires { i ≤ states self.now.table.bytes.now }
+        ensures { Passes (start_fault self.now.table.bytes.now i) result }
+    {
+        check_field(&self.table, 12 + 4 * i, 4)?;
+        if start_wrong(&self.table, i) {
+            Err(TableFault::Start { index: i as u16 })
+        } else {
+            Ok(())
+        }
     }
-}
 
-fn check_starts(table: &Table) -> Result<(), TableFault>
-    requires { states table.now.bytes.now ≤ 4096 }
-    ensures { Passes (earliest (states table.now.bytes.now + 1) (start_fault table.now.bytes.now)) result }
-{
-    // one start more than there are states
-    for i in 0..table.states() + 1 {
-        check_start(table, i)?;
+    // One start more than there are states.
+    fn check_starts(&self) -> Result<(), TableFault>
+        ensures { Passes (earliest (states self.now.table.bytes.now + 1) (start_fault self.now.table.bytes.now)) result }
+    {
+        check_each(self.table.states() + 1, |i| self.check_start(i))
     }
-    Ok(())
-}
 
-// Only the length of a transition is checked.
-fn check_transition(table: &Table, k: u32) -> Result<(), TableFault>
-    requires few { states table.now.bytes.now ≤ 4096 }
-    requires within { k < 16384 }
-    ensures { Passes (transition_fault table.now.bytes.now k) result }
-{
-    let at = (table.transitions_at() + 14 * k as usize) as u32;
-    check_field(table, at, 2)?;
-    check_field(table, at + 2, 4)?;
-    check_field(table, at + 6, 8)
-}
-
-fn check_transitions(table: &Table) -> Result<(), TableFault>
-    requires few { states table.now.bytes.now ≤ 4096 }
-    requires short { transitions table.now.bytes.now ≤ 16384 }
-    ensures { Passes (earliest (transitions table.now.bytes.now) (transition_fault table.now.bytes.now)) result }
-{
-    // the transitions in their order
-    for k in 0..table.transitions() {
-        check_transition(table, k)?;
+    // Only the length of a transition is checked.
+    fn check_transition(&self, k: u32) -> Result<(), TableFault>
+        requires { k < transitions self.now.table.bytes.now }
+        ensures { Passes (transition_fault self.now.table.bytes.now k) result }
+    {
+        let at = (self.table.transitions_at() + 14 * k as usize) as u32;
+        check_field(&self.table, at, 2)?;
+        check_field(&self.table, at + 2, 4)?;
+        check_field(&self.table, at + 6, 8)
     }
-    Ok(())
+
+    fn check_transitions(&self) -> Result<(), TableFault>
+        ensures { Passes (earliest (transitions self.now.table.bytes.now) (transition_fault self.now.table.bytes.now)) result }
+    {
+        check_each(self.table.transitions(), |k| self.check_transition(k))
+    }
+
+    // Nothing stands behind the table.
+    pub(crate) fn check_end(&self) -> Result<(), TableFault>
+        ensures { Passes (excess_fault self.now.table.bytes.now) result }
+    {
+        let size = self.table.size();
+        if size < self.table.reach() {
+            Err(TableFault::Excess { byte: size as u32 })
+        } else {
+            Ok(())
+        }
+    }
 }
 
 // Everything but what stands behind the table.
 pub(crate) fn check_table(table: &Table) -> Result<(), TableFault>
     ensures { Passes (table_fault table.now.bytes.now) result }
 {
-    check_counts(table)?;
-    check_starts(table)?;
-    check_transitions(table)
-}
-
-// Nothing stands behind the table.
-pub(crate) fn check_end(table: &Table) -> Result<(), TableFault>
-    requires few { states table.now.bytes.now ≤ 4096 }
-    requires short { transitions table.now.bytes.now ≤ 16384 }
-    ensures { Passes (excess_fault table.now.bytes.now) result }
-{
-    let size = table.size();
-    if size < table.reach() {
-        Err(TableFault::Excess { byte: size as u32 })
-    } else {
-        Ok(())
-    }
+    let counted = check_counts(table)?;
+    counted.check_starts()?;
+    counted.check_transitions()
 }

@@ -1,14 +1,5 @@
-use Rattle.std.proofs.Common.{arith}
-use Rattle.fault.proofs.First.{earliest_none, earliest_more, earliest_found, passed_up}
+use Rattle.std.proofs.Common.{of_calls}
 use Rattle.admission.proofs.check_counts.Goals as goal
 
-pub loop-state-init : goal.loop-state-init
-loop-state-init g c = earliest_none _
-
-pub loop-state-preserved : goal.loop-state-preserved
-loop-state-preserved g c = earliest_more _ _ c.loop-state.invariant c.in_ok-check_count.ensures.0
-
-pub returns-in_err-check_count : goal.returns-in_err-check_count
-returns-in_err-check_count g c =
-    passed_up _ _ c.from_residual.ensures.1
-    (earliest_found _ _ _ _ c.loop-state.invariant c.in_err-check_count.ensures (omega arith))
+pub returns : goal.returns
+returns g c = rw (← c.states.ensures) (c.check_each.ensures _ (λ i r h p. search of_calls))

@@ -1,19 +1,21 @@
-use Rattle.std.proofs.Common.{arith}
-use Rattle.fault.proofs.First.{earliest_none, passed_up}
-use Rattle.casefile.proofs.Ranges.{edges_more, edges_found, edges_left}
+use Rattle.std.proofs.Common.{arith, of_calls}
+use Rattle.fault.proofs.First.{passed_up}
+use Rattle.casefile.specs.Refusal.{own_fault}
+use Rattle.casefile.proofs.Ranges.{edges_found, edges_none, edges_left}
 use Rattle.casefile.proofs.checks.check_edges.Goals as goal
 
-pub loop-i-init : goal.loop-i-init
-loop-i-init c = earliest_none _
-
-pub loop-i-preserved : goal.loop-i-preserved
-loop-i-preserved c = edges_more _ _ c.requires _ c.loop-i-test.true c.loop-i.invariant c.in_ok-check_edges_of.ensures.0
-
-pub returns-in_err-check_edges_of : goal.returns-in_err-check_edges_of
-returns-in_err-check_edges_of c =
+pub returns-in_err-check_each : goal.returns-in_err-check_each
+returns-in_err-check_each c =
+    let own = own_fault c.args.file.now.bytes.now c.args.file.now.header in
     passed_up _ _ c.from_residual.ensures.1
-    (edges_found _ _ c.requires _ _ c.loop-i-test.true c.loop-i.invariant c.in_err-check_edges_of.ensures)
+    (edges_found _ _ c.requires _ (rw c.from.ensures at (c.in_err-check_each.ensures own (λ i r h p. search of_calls))))
 
 pub returns-then-end-from : goal.returns-then-end-from
 returns-then-end-from c =
-    edges_left _ _ c.requires _ _ (omega arith) c.due-end.ensures c.loop-i.invariant (omega arith)
+    let own = own_fault c.args.file.now.bytes.now c.args.file.now.header in
+    edges_left _ _ c.requires _ c.due-end.ensures (omega arith) (rw c.from.ensures at (c.in_ok-check_each.ensures own (λ i r h p. search of_calls)).0)
+
+pub returns-else-end-from : goal.returns-else-end-from
+returns-else-end-from c =
+    let own = own_fault c.args.file.now.bytes.now c.args.file.now.header in
+    (edges_none _ _ c.requires _ c.due-end.ensures (omega arith) (rw c.from.ensures at (c.in_ok-check_each.ensures own (λ i r h p. search of_calls)).0), tt)

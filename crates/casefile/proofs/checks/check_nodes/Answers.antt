@@ -1,14 +1,8 @@
-use Rattle.std.proofs.Common.{arith}
-use Rattle.fault.proofs.First.{earliest_none, earliest_more, earliest_found, passed_up}
+use Rattle.std.proofs.Common.{of_calls}
+use Rattle.casefile.specs.Refusal.{node_fault}
 use Rattle.casefile.proofs.checks.check_nodes.Goals as goal
 
-pub loop-i-init : goal.loop-i-init
-loop-i-init g c = earliest_none _
-
-pub loop-i-preserved : goal.loop-i-preserved
-loop-i-preserved g c = earliest_more _ _ c.loop-i.invariant c.in_ok-check_node.ensures.0
-
-pub returns-in_err-check_node : goal.returns-in_err-check_node
-returns-in_err-check_node g c =
-    passed_up _ _ c.from_residual.ensures.1
-    (earliest_found _ _ _ _ c.loop-i.invariant c.in_err-check_node.ensures (omega arith))
+pub returns : goal.returns
+returns g c =
+    let f = c.args.file.now in
+    rw c.from.ensures at (c.check_each.ensures (node_fault g.S.Scale.algebra f.bytes.now f.header) (λ i r h p. search of_calls))

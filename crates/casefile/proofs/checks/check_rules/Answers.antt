@@ -1,14 +1,5 @@
-use Rattle.std.proofs.Common.{arith}
-use Rattle.fault.proofs.First.{earliest_none, earliest_more, earliest_found, passed_up}
+use Rattle.std.proofs.Common.{of_calls}
 use Rattle.casefile.proofs.checks.check_rules.Goals as goal
 
-pub loop-rule-init : goal.loop-rule-init
-loop-rule-init c = earliest_none _
-
-pub loop-rule-preserved : goal.loop-rule-preserved
-loop-rule-preserved c = earliest_more _ _ c.loop-rule.invariant c.in_ok-check_rule.ensures.0
-
-pub returns-in_err-check_rule : goal.returns-in_err-check_rule
-returns-in_err-check_rule c =
-    passed_up _ _ c.from_residual.ensures.1
-    (earliest_found _ _ _ _ c.loop-rule.invariant c.in_err-check_rule.ensures (omega arith))
+pub returns : goal.returns
+returns c = rw (← c.from.ensures) (c.check_each.ensures _ (λ i r h p. search of_calls))

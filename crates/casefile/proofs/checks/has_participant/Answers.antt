@@ -1,17 +1,14 @@
-use Rattle.std.proofs.Common.{is_some, sym, ap, ◌∙◌}
-use Rattle.std.proofs.lemmas.Bool.{eq-eqb, ne_eqb, not_from_true, not_from_false}
-use Rattle.fault.proofs.First.{flag_off, flag_on, earliest_none, earliest_more, earliest_found}
+use Rattle.std.proofs.Common.{ℕ, not, eqb, ◌∙◌, refl, arith, rules}
+use Rattle.std.proofs.lemmas.Iterator.{YieldsList-from_range}
+use Rattle.std.proofs.lemmas.Iterator.Search.{any_from_yields_List}
+use Rattle.records.specs.Codes.{none}
+use Rattle.format.specs.Layout.{rule_label}
+use Rattle.casefile.proofs.FineEdges.{any_found}
 use Rattle.casefile.proofs.checks.has_participant.Goals as goal
 
-pub loop-place-init : goal.loop-place-init
-loop-place-init c = earliest_none _
-
-pub loop-place-preserved : goal.loop-place-preserved
-loop-place-preserved c =
-    earliest_more _ _ c.loop-place.invariant
-    (flag_off _ (not_from_true _ (eq-eqb _ _ (sym c.label.ensures ∙ c.if-label.false))))
-
-pub returns-then-label : goal.returns-then-label
-returns-then-label c =
-    sym (ap is_some (earliest_found _ _ _ _ c.loop-place.invariant
-    (flag_on _ (not_from_false _ (ne_eqb _ _ (λ e. c.if-label.true (c.label.ensures ∙ e))))) c.loop-place-test.true))
+pub returns : goal.returns
+returns c =
+    let places = c.args.file.now.header.places in
+    let asks = λ (p : ℕ). not (eqb (rule_label c.args.file.now.bytes.now c.args.file.now.header c.args.rule p) none) in
+    any_from_yields_List asks _ _ c.any.result c.any.ensures.ran (YieldsList-from_range 0 places places refl (omega arith)) (λ x b q k. search rules)
+    ∙ any_found asks places
