@@ -1,27 +1,16 @@
--- One turn more of a test over numbers, and of a list that is filled.
-use Rattle.std.proofs.Common.{◌≡◌, ℕ, zero, suc, ◌+◌, ◌<◌, ◌≤◌, Bool, true, false, List, [], ◌∷◌, ◌++◌, map, sym, refl, ap, ◌∙◌, ⊎_elim, add-one, arith}
+-- A test over numbers that one of them passes, and a list that is filled by counting.
+use Rattle.std.proofs.Common.{◌≡◌, ℕ, zero, suc, ◌+◌, ◌<◌, ◌≤◌, Bool, true, List, [], ◌∷◌, ◌++◌, map, sym, refl, ap, ◌∙◌, ⊎_elim, arith}
 use Rattle.std.specs.List.{range_with_len}
 use Rattle.std.proofs.lemmas.List.FromFn.{map-range_with_len_more}
-use Rattle.std.proofs.lemmas.Bool.{cases_eq, or_from, or_left, or_right, and_from, and_left, and_right}
+use Rattle.std.proofs.lemmas.Bool.{cases_eq, or_left, or_right, and_from}
 use Rattle.meaning.specs.Check.{all, every}
 use Rattle.meaning.specs.Quotient.{any}
 use Rattle.meaning.proofs.Check.{all_at}
-
-pub any_more : (t : ℕ → Bool) (i : ℕ) → any i t ≡ false → t i ≡ false → any (i + 1) t ≡ false
-any_more t i h k = rw (add-one i) (or_from (any i t) (t i) h k)
 
 pub any_found : (t : ℕ → Bool) (i n : ℕ) → i < n → t i ≡ true → any n t ≡ true
 any_found t i zero lt h = absurd (omega arith)
 any_found t i (suc n) lt h =
     ⊎_elim (λ e. or_right (any n t) (t n) (ap t (sym e) ∙ h)) (λ (ne : i ≡ n → ⊥). or_left (any n t) (t n) (any_found t i n (omega arith) h)) (cases_eq i n)
-
-pub all_more : (t : ℕ → Bool) (i : ℕ) → all i t ≡ true → t i ≡ true → all (i + 1) t ≡ true
-all_more t i h k = rw (add-one i) (and_from (all i t) (t i) h k)
-
-pub all_lost : (t : ℕ → Bool) (i n : ℕ) → i < n → t i ≡ false → all n t ≡ false
-all_lost t i zero lt h = absurd (omega arith)
-all_lost t i (suc n) lt h =
-    ⊎_elim (λ e. and_right (all n t) (t n) (ap t (sym e) ∙ h)) (λ (ne : i ≡ n → ⊥). and_left (all n t) (t n) (all_lost t i n (omega arith) h)) (cases_eq i n)
 
 -- a test at every number of a list made by counting
 pub every_counted : {X : Type 0} (t : X → Bool) (f : ℕ → X) (n a : ℕ) → ((i : ℕ) → a ≤ i → i < a + n → t (f i) ≡ true) → every t (map f (range_with_len a n)) ≡ true

@@ -1,3 +1,4 @@
 -- The definitions that the contracts of the rule book cite.
 pub mod Parts
-pub mod Model
+pub mod Standing
+pub mod Cases

@@ -2,11 +2,8 @@
 mod filling;
 mod reading;
 
-ghost use Rattle.std.specs.Prelude.{◌≡◌, ◌≤◌, true, vec_capacity};
-ghost use Rattle.meaning.specs.Check.{every};
-ghost use Rattle.book.specs.Parts.{has_part};
-
 use records::{Rule, Sign};
+use std::marker::Model;
 
 // Every rule in it has a participant within its places. Room for the rules and blocks of any case is made once,
 // when the book is.
@@ -15,7 +12,17 @@ pub struct RuleBook {
     places: u8,
     rules: Vec<Rule>,
     signs: Vec<Sign>,
-    ghost rule_room: { 256 ≤ vec_capacity rules },
-    ghost sign_room: { 16 ≤ vec_capacity signs },
-    ghost parts: { every (has_part places) rules.items ≡ true },
+}
+
+// Callers see the places, rules and signs.
+impl Model for RuleBook {
+    ghost use Rattle.meaning.specs.Network.{Book};
+
+    ghost Value = { Book };
+
+    ghost use Rattle.book.specs.Standing.{shown, Standing};
+
+    ghost view = { shown };
+
+    ghost invariant = { Standing };
 }

@@ -1,3 +1,2 @@
 -- Lemmas on the check.
 pub mod Reading
-pub mod Turns

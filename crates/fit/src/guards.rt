@@ -4,7 +4,6 @@ ghost use Rattle.meaning.specs.Check.{guard_test};
 ghost use Rattle.meaning.specs.Network.{counts};
 ghost use Rattle.meaning.specs.Quotient.{any};
 ghost use Rattle.calls.specs.Left.{left_places};
-ghost use Rattle.book.specs.Model.{model};
 
 use book::RuleBook;
 use records::{Guard, PLACES};
@@ -19,23 +18,17 @@ fn is_left(left: u8, place: u8) -> bool
 
 // A place that is left takes part in the rule of that number; a rule past the last has no participant.
 fn has_participant(book: &RuleBook, left: u8, number: u16) -> bool
-    ensures { result ≡ any 8 (counts (model book.now) (left_places left) number) }
+    ensures { result ≡ any 8 (counts book.now (left_places left) number) }
 {
     let Some(rule) = book.rules().get(usize::from(number)) else {
         return false;
     };
-    // the places in their order
-    for place in 0..PLACES as u8 {
-        if is_left(left, place) && rule.takes_part(place) {
-            return true;
-        }
-    }
-    false
+    (0..PLACES as u8).any(|place| is_left(left, place) && rule.takes_part(place))
 }
 
 // The guard is plain, or its rule has a participant among the places left.
 pub(crate) fn guard_fits(book: &RuleBook, left: u8, guard: Guard) -> bool
-    ensures { result ≡ guard_test (model book.now) (left_places left) guard }
+    ensures { result ≡ guard_test book.now (left_places left) guard }
 {
     match guard {
         Guard::Plain => true,

@@ -8,12 +8,10 @@ ghost use Rattle.std.specs.Prelude.{◌≡◌, ◌^◌, nat_lt};
 ghost use Rattle.fault.specs.First.{Passes};
 ghost use Rattle.calls.specs.Fit.{fits};
 ghost use Rattle.calls.specs.Outcome.{fit_fault};
-ghost use Rattle.book.specs.Model.{model};
 
 use book::RuleBook;
-use calls::Remainder;
+use calls::{Memories, Remainder};
 use fault::Fault;
-use records::{Edge, Node};
 use scale::Scale;
 use view::View;
 
@@ -25,22 +23,16 @@ fn left_fits(left: u8, places: u8) -> bool
 }
 
 // Everything about the remainder holds in these memories by this rule book.
-pub fn fits<'a, S: Scale>(
-    book: &'a RuleBook,
-    remainder: &'a Remainder,
-    nodes: &'a [Node],
-    edges: &'a [Edge],
-) -> bool
-    ensures { result ≡ fits S.Scale.algebra (model book.now) remainder.now (record { nodes = nodes.entry.now; edges = edges.now }) }
+pub fn fits<S: Scale>(book: &RuleBook, remainder: &Remainder, memory: &Memories<'_>) -> bool
+    ensures { result ≡ fits S.Scale.algebra book.now remainder.now memory.now }
 {
     let view = View {
         book,
         remainder,
-        nodes,
-        edges,
+        memory,
     };
-    remainder.nodes as usize <= nodes.len()
-        && remainder.edges as usize <= edges.len()
+    remainder.nodes as usize <= memory.nodes.len()
+        && remainder.edges as usize <= memory.edges.len()
         && left_fits(remainder.left, book.places())
         && remainder.initial < remainder.nodes
         && view.nodes_fit::<S>()
@@ -51,12 +43,11 @@ pub fn fits<'a, S: Scale>(
 pub fn check_fit<S: Scale>(
     book: &RuleBook,
     remainder: &Remainder,
-    nodes: &[Node],
-    edges: &[Edge],
+    memory: &Memories<'_>,
 ) -> Result<(), Fault>
-    ensures { Passes (fit_fault S.Scale.algebra (model book.now) remainder.now (record { nodes = nodes.entry.now; edges = edges.now })) result }
+    ensures { Passes (fit_fault S.Scale.algebra book.now remainder.now memory.now) result }
 {
-    if fits::<S>(book, remainder, nodes, edges) {
+    if fits::<S>(book, remainder, memory) {
         Ok(())
     } else {
         Err(Fault::Misfit)

@@ -4,12 +4,10 @@ ghost use Rattle.meaning.specs.Check.{all, every, fixed_test, edge_test};
 ghost use Rattle.calls.specs.Fit.{due, plain_values, fits_node};
 ghost use Rattle.calls.specs.Left.{left_places};
 ghost use Rattle.calls.specs.Memory.{node_in, edges_of, held};
-ghost use Rattle.book.specs.Model.{model};
-ghost use Rattle.fit.specs.View.{memory};
 
 use crate::guards::guard_fits;
 use book::RuleBook;
-use calls::Remainder;
+use calls::{Memories, Remainder};
 use records::{Edge, Kind, Node};
 use scale::Scale;
 
@@ -27,18 +25,10 @@ const NO_NODE: Node = Node {
 pub(crate) struct View<'a> {
     pub(crate) book: &'a RuleBook,
     pub(crate) remainder: &'a Remainder,
-    pub(crate) nodes: &'a [Node],
-    pub(crate) edges: &'a [Edge],
+    pub(crate) memory: &'a Memories<'a>,
 }
 
-// Where the edges of a node end.
-fn end_of(node: &Node) -> u64
-    ensures { result ≡ node.now.first + node.now.count }
-{
-    u64::from(node.first) + u64::from(node.count)
-}
-
-// A fixed node has a value of the scale and no edges, any other the value 0.
+// A fixed node has a value of the scale and no edges, any other the value 0. Told of a node that has a kind.
 fn value_fits<S: Scale>(node: &Node) -> bool
     ensures { result ≡ (plain_values node.now.kind node.now && fixed_test S.Scale.algebra node.now.kind node.now.value) }
 {
@@ -51,21 +41,22 @@ fn value_fits<S: Scale>(node: &Node) -> bool
 impl View<'_> {
     // Node `q` of the memory.
     fn node(&self, q: u32) -> Node
-        ensures { result ≡ node_in (memory self.now) q }
+        ensures { result ≡ node_in self.now.memory.now q }
     {
-        self.nodes.get(q as usize).copied().unwrap_or(NO_NODE)
+        let memory = self.memory;
+        memory.nodes.get(q as usize).copied().unwrap_or(NO_NODE)
     }
 
     // Where the edges of node `q` are to begin: where those of the node before it end.
     pub(crate) fn due(&self, q: u32) -> u64
-        ensures { result ≡ due (memory self.now) q }
+        ensures { result ≡ due self.now.memory.now q }
     {
-        if q == 0 { 0 } else { end_of(&self.node(q - 1)) }
+        if q == 0 { 0 } else { self.node(q - 1).end() }
     }
 
     // An edge of node `q` has a value for its weight, leads to a node in no lower block, and has a guard that fits.
     fn edge_fits<S: Scale>(&self, q: u32, edge: &Edge) -> bool
-        ensures { result ≡ edge_test S.Scale.algebra (model self.now.book.now) (left_places self.now.remainder.now.left) (held self.now.remainder.now (memory self.now)) q edge.now }
+        ensures { result ≡ edge_test S.Scale.algebra self.now.book.now (left_places self.now.remainder.now.left) (held self.now.remainder.now self.now.memory.now) q edge.now }
     {
         S::is_value(edge.weight)
             && edge.target < self.remainder.nodes
@@ -75,27 +66,24 @@ impl View<'_> {
 
     // Every edge of node `q` fits.
     fn edges_fit<S: Scale>(&self, q: u32) -> bool
-        requires { (node_in (memory self.now) q).first + (node_in (memory self.now) q).count ≤ length self.now.edges.now }
-        ensures { result ≡ every (edge_test S.Scale.algebra (model self.now.book.now) (left_places self.now.remainder.now.left) (held self.now.remainder.now (memory self.now)) q) (edges_of (memory self.now) (node_in (memory self.now) q)) }
+        requires { (node_in self.now.memory.now q).first + (node_in self.now.memory.now q).count ≤ length self.now.memory.now.edges }
+        ensures { result ≡ every (edge_test S.Scale.algebra self.now.book.now (left_places self.now.remainder.now.left) (held self.now.remainder.now self.now.memory.now) q) (edges_of self.now.memory.now (node_in self.now.memory.now q)) }
     {
         let node = self.node(q);
-        // the node's edges in their order
-        for edge in &self.edges[node.first as usize..end_of(&node) as usize] {
-            if !self.edge_fits::<S>(q, edge) {
-                return false;
-            }
-        }
-        true
+        let memory = self.memory;
+        memory.edges[node.first as usize..node.end() as usize]
+            .iter()
+            .all(|edge| self.edge_fits::<S>(q, edge))
     }
 
     // Node `q` and its edges keep every rule.
     fn node_fits<S: Scale>(&self, q: u32) -> bool
-        requires { self.now.remainder.now.edges ≤ length self.now.edges.now }
-        ensures { result ≡ fits_node S.Scale.algebra (model self.now.book.now) self.now.remainder.now (memory self.now) q }
+        requires { self.now.remainder.now.edges ≤ length self.now.memory.now.edges }
+        ensures { result ≡ fits_node S.Scale.algebra self.now.book.now self.now.remainder.now self.now.memory.now q }
     {
         let node = self.node(q);
         u64::from(node.first) == self.due(q)
-            && end_of(&node) <= u64::from(self.remainder.edges)
+            && node.end() <= u64::from(self.remainder.edges)
             && usize::from(node.block) < self.book.signs().len()
             && value_fits::<S>(&node)
             && self.edges_fit::<S>(q)
@@ -103,15 +91,9 @@ impl View<'_> {
 
     // Every node and its edges keep the rules.
     pub(crate) fn nodes_fit<S: Scale>(&self) -> bool
-        requires { self.now.remainder.now.edges ≤ length self.now.edges.now }
-        ensures { result ≡ all self.now.remainder.now.nodes (fits_node S.Scale.algebra (model self.now.book.now) self.now.remainder.now (memory self.now)) }
+        requires { self.now.remainder.now.edges ≤ length self.now.memory.now.edges }
+        ensures { result ≡ all self.now.remainder.now.nodes (fits_node S.Scale.algebra self.now.book.now self.now.remainder.now self.now.memory.now) }
     {
-        // the nodes in their order
-        for q in 0..self.remainder.nodes {
-            if !self.node_fits::<S>(q) {
-                return false;
-            }
-        }
-        true
+        (0..self.remainder.nodes).all(|q| self.node_fits::<S>(q))
     }
 }

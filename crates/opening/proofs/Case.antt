@@ -11,7 +11,7 @@ use Rattle.casefile.specs.Refusal.{file_fault}
 use Rattle.casefile.proofs.Accepts.{accepted}
 use Rattle.meaning.specs.Check.{all}
 use Rattle.meaning.specs.Network.{Book}
-use Rattle.book.specs.Model.{holds}
+use Rattle.book.specs.Cases.{holds}
 use Rattle.book.specs.Parts.{has_part}
 use Rattle.book.proofs.Turns.{any_found}
 use Rattle.calls.specs.Fit.{fits}

@@ -1,23 +1,20 @@
 -- The rules with a result, one rule after another.
-use Rattle.std.proofs.Common.{◌≡◌, ℕ, suc, ◌+◌, ◌<◌, ◌≤◌, Bool, true, false, cond, eqb, List, [], ◌∷◌, ◌++◌, map, length, get_or, take, drop, sym, ap, ◌∙◌, add-zero, arith, length-append}
+use Rattle.std.proofs.Common.{◌≡◌, ℕ, zero, suc, ◌+◌, ◌<◌, ◌≤◌, Bool, true, false, cond, eqb, List, [], ◌∷◌, ◌++◌, map, length, get_or, take, drop, set, sym, refl, ap, ◌∙◌, add-zero, arith, length-append}
 use mathlib.Core.List.{map-append}
-use Rattle.std.specs.List.{range_with_len}
-use Rattle.std.proofs.lemmas.List.FromFn.{map-range_with_len_more}
+use Rattle.std.specs.List.{range_with_len, filter}
 use Rattle.std.proofs.lemmas.List.{length-map, take-append-drop, take_more, length-take-le, append-nil}
 use Rattle.std.proofs.lemmas.Bool.{cond-true, cond-false, eq-eqb, ne_eqb}
 use Rattle.records.specs.declared.Edge.{Edge}
 use Rattle.records.specs.declared.Node.{Node}
 use Rattle.records.specs.declared.Rule.{Rule}
-use Rattle.records.specs.Codes.{none}
 use Rattle.scale.specs.Algebra.{Algebra}
 use Rattle.format.specs.Layout.{edge_row, node_row}
-use Rattle.format.specs.declared.file.FormulaEdge.{FormulaEdge}
 use Rattle.format.specs.declared.header.Header.{Header}
 use Rattle.meaning.specs.Quotient.{gathered}
+use Rattle.calls.specs.Memory.{over}
 use Rattle.calls.specs.Opening.{book_in, rules_for, opened_edge, formula_in}
-use Rattle.writing.specs.Filled.{filled}
-use Rattle.writing.proofs.Filling.{gathered_more, filled_next}
-use Rattle.opening.specs.Ruled.{ruled, plain}
+use Rattle.writing.proofs.Filling.{gathered_more, over_one}
+use Rattle.opening.specs.Ruled.{ruled}
 
 -- the number n, where the rule has the result
 abbrev pub one_for : ℕ → ℕ → Rule → List ℕ
@@ -44,40 +41,14 @@ pub rules_within : (label i : ℕ) (rs : List Rule) → length (rules_for label 
 rules_within label i rs =
     omega (arith, ap (λ l. length (rules_for label 0 l)) (take-append-drop i rs), ap length (rules_for_append label 0 (take i rs) (drop i rs)), length-append (rules_for label 0 (take i rs)) (rules_for label (0 + length (take i rs)) (drop i rs)))
 
--- the count of them, where rules are made from their numbers
-module _ (row : ℕ → Rule) (label : ℕ) where
-  abbrev pub so_far : ℕ → ℕ
-  so_far i = length (rules_for label 0 (map row (range_with_len 0 i)))
-
-  counted : (i : ℕ) → so_far (i + 1) ≡ so_far i + length (one_for label (0 + length (map row (range_with_len 0 i))) (row i))
-  counted i =
-      ap (λ l. length (rules_for label 0 l)) (map-range_with_len_more row 0 i i (omega arith))
-      ∙ ap length (rules_for_more label 0 (map row (range_with_len 0 i)) (row i))
-      ∙ length-append (rules_for label 0 (map row (range_with_len 0 i))) (one_for label (0 + length (map row (range_with_len 0 i))) (row i))
-
-  pub counted_one : (i n : ℕ) → eqb (row i).result label ≡ true → n ≡ so_far i → n + 1 ≡ so_far (i + 1)
-  counted_one i n h e =
-      let k = 0 + length (map row (range_with_len 0 i)) in
-      omega (arith, counted i, ap length (cond-true (eqb (row i).result label) (k ∷ []) [] h))
-
-  pub counted_none : (i n : ℕ) → eqb (row i).result label ≡ false → n ≡ so_far i → n ≡ so_far (i + 1)
-  counted_none i n h e =
-      let k = 0 + length (map row (range_with_len 0 i)) in
-      omega (arith, counted i, ap length (cond-false (eqb (row i).result label) (k ∷ []) [] h))
-
--- what a formula edge becomes, by its label
-module _ (A : Algebra) (rules : List Rule) (e : FormulaEdge) where
-  pub opened_plain : e.label ≡ none → opened_edge A rules e ≡ plain A.highest e.target ∷ []
-  opened_plain h = cond-true (eqb e.label none) _ _ (eq-eqb e.label none h)
-
-  pub opened_ruled : (e.label ≡ none → ⊥) → opened_edge A rules e ≡ map (ruled A.highest e.target) (rules_for e.label 0 rules)
-  opened_ruled h = cond-false (eqb e.label none) _ _ (ne_eqb e.label none h)
-
-  pub size_plain : e.label ≡ none → 1 ≡ length (opened_edge A rules e)
-  size_plain h = sym (ap length (opened_plain h))
-
-  pub size_ruled : (e.label ≡ none → ⊥) → length (rules_for e.label 0 rules) ≡ length (opened_edge A rules e)
-  size_ruled h = sym (ap length (opened_ruled h) ∙ length-map (rules_for e.label 0 rules) (ruled A.highest e.target))
+-- those among rules that are made from their numbers
+pub rules_counted : (row : ℕ → Rule) (label a n : ℕ) → rules_for label a (map row (range_with_len a n)) ≡ filter (λ r. eqb (row r).result label) (range_with_len a n)
+rules_counted row label a zero = refl
+rules_counted row label a (suc n) = go (eqb (row a).result label) (rules_counted row label (a + 1) n)
+  where
+    go : (b : Bool) {xs ys : List ℕ} → xs ≡ ys → cond b (a ∷ xs) xs ≡ cond b (a ∷ ys) ys
+    go true e = ap (λ l. a ∷ l) e
+    go false e = e
 
 -- the size of what is gathered, with the next piece
 pub sum_more : {Y : Type 0} (f : ℕ → List Y) (a k total more : ℕ) → total ≡ length (gathered f (range_with_len a k)) → more ≡ length (f (a + k)) → total + more ≡ length (gathered f (range_with_len a (k + 1)))
@@ -105,24 +76,24 @@ module _ (label : ℕ) (rs : List Rule) (i : ℕ) (within : i < length rs) where
   room_left h = omega (arith, rules_within label (i + 1) rs, ap length (turn_taken h), length-append (rules_for label 0 (take i rs)) (i ∷ []))
 
   -- what is written
-  module _ (weight target at end number : ℕ) (before now : List Edge) (counted_up : number ≡ i) (here : end ≡ at + length (rules_for label 0 (take i rs)))
-      (so_far : now ≡ filled at (map (ruled weight target) (rules_for label 0 (take i rs))) before) (room : at + length (rules_for label 0 rs) ≤ length before) where
-    pub written_taken : (after : List Edge) → (get_or rs i no_rule).result ≡ label → after ≡ filled end (ruled weight target number ∷ []) now
-        → after ≡ filled at (map (ruled weight target) (rules_for label 0 (take (i + 1) rs))) before
-    written_taken after h step =
+  module _ (weight target count : ℕ) (before now : List Edge) (here : count ≡ length (rules_for label 0 (take i rs)))
+      (so_far : now ≡ over (map (ruled weight target) (rules_for label 0 (take i rs))) before) where
+    pub written_taken : length (rules_for label 0 rs) ≤ length before → (get_or rs i no_rule).result ≡ label
+        → set now count (ruled weight target i) ≡ over (map (ruled weight target) (rules_for label 0 (take (i + 1) rs))) before
+    written_taken room h =
         let out = map (ruled weight target) (rules_for label 0 (take i rs)) in
         let size = length-map (rules_for label 0 (take i rs)) (ruled weight target) in
-        filled_next at end out (ruled weight target number ∷ []) before now after so_far (omega arith) (omega (arith, rules_within label i rs)) step
-        ∙ ap (λ l. filled at l before) (ap (λ k. out ++ ruled weight target k ∷ []) counted_up ∙ sym (ap (map (ruled weight target)) (turn_taken h) ∙ map-append (ruled weight target) (rules_for label 0 (take i rs)) (i ∷ [])))
+        over_one count (ruled weight target i) out before now so_far (here ∙ sym size) (omega (arith, room_left h))
+        ∙ ap (λ l. over l before) (sym (ap (map (ruled weight target)) (turn_taken h) ∙ map-append (ruled weight target) (rules_for label 0 (take i rs)) (i ∷ [])))
 
-    pub end_taken : (next : ℕ) → (get_or rs i no_rule).result ≡ label → next ≡ end + 1 → next ≡ at + length (rules_for label 0 (take (i + 1) rs))
-    end_taken next h step = omega (arith, ap length (turn_taken h), length-append (rules_for label 0 (take i rs)) (i ∷ []))
+    pub end_taken : (get_or rs i no_rule).result ≡ label → count + 1 ≡ length (rules_for label 0 (take (i + 1) rs))
+    end_taken h = omega (arith, ap length (turn_taken h), length-append (rules_for label 0 (take i rs)) (i ∷ []))
 
-    pub end_left : ((get_or rs i no_rule).result ≡ label → ⊥) → end ≡ at + length (rules_for label 0 (take (i + 1) rs))
-    end_left h = here ∙ ap (λ l. at + length l) (sym (turn_left h))
+    pub end_left : ((get_or rs i no_rule).result ≡ label → ⊥) → count ≡ length (rules_for label 0 (take (i + 1) rs))
+    end_left h = here ∙ ap length (sym (turn_left h))
 
-    pub written_left : ((get_or rs i no_rule).result ≡ label → ⊥) → now ≡ filled at (map (ruled weight target) (rules_for label 0 (take (i + 1) rs))) before
-    written_left h = so_far ∙ ap (λ l. filled at (map (ruled weight target) l) before) (sym (turn_left h))
+    pub written_left : ((get_or rs i no_rule).result ≡ label → ⊥) → now ≡ over (map (ruled weight target) (rules_for label 0 (take (i + 1) rs))) before
+    written_left h = so_far ∙ ap (λ l. over (map (ruled weight target) l) before) (sym (turn_left h))
 
 -- what the formula edge of number e becomes
 abbrev pub opened_at : Algebra → List Rule → List ℕ → Header → ℕ → List Edge

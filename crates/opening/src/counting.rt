@@ -9,7 +9,7 @@ use format::CaseFile;
 use records::NONE;
 use scale::Scale;
 use std::marker::PhantomData;
-use writing::Counted;
+use writing::{Counted, Shaped};
 
 // The formula's graph by the file alone, as it will be at the scale.
 #[derive_where(Clone, Copy)]
@@ -23,14 +23,9 @@ fn count_rules(file: &CaseFile, label: u16) -> u32
     ensures result { result ≡ length (rules_for label 0 (book_in file.now.bytes.now file.now.header).rules) }
     ensures few { result ≤ file.now.header.rules }
 {
-    let mut n = 0;
-    // the rules in their order
-    for r in 0..file.header.rules {
-        if file.label(r, file.header.places) == label {
-            n += 1;
-        }
-    }
-    n
+    (0..file.header.rules)
+        .filter(|r| file.label(*r, file.header.places) == label)
+        .count() as u32
 }
 
 // How many edges a formula edge becomes.
@@ -61,15 +56,17 @@ fn node_size(file: &CaseFile, q: u16) -> u32
     total
 }
 
-impl<'a, S: Scale> Counted for Size<'a, S> {
+impl<'a, S: Scale> Shaped for Size<'a, S> {
     ghost graph = { λ s. formula_in S.Scale.algebra s.file.bytes.now s.file.header };
 
     ghost ready = { λ s. Measured s.file.bytes.now s.file.header };
 
-    fn size(&self) -> u64 {
+    fn nodes(&self) -> u64 {
         u64::from(self.file.header.nodes)
     }
+}
 
+impl<'a, S: Scale> Counted for Size<'a, S> {
     fn degree(&self, q: u32) -> Option<u32> {
         Some(node_size(&self.file, q as u16))
     }

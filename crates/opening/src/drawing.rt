@@ -1,15 +1,15 @@
 // Writing the formula's graph over the rules of the book.
-ghost use Rattle.std.specs.Prelude.{◌≡◌, ◌+◌, ◌^◌, ◌<◌, ◌≤◌, map, length};
+ghost use Rattle.std.specs.Prelude.{◌≡◌, ◌<◌, ◌≤◌, map, length};
+ghost use Rattle.calls.specs.Memory.{over};
 ghost use Rattle.calls.specs.Opening.{book_in, rules_for, opened_edge, formula_in};
 ghost use Rattle.opening.specs.Measured.{Measured};
 ghost use Rattle.opening.specs.Ruled.{ruled};
-ghost use Rattle.writing.specs.Filled.{filled};
 
 use format::{CaseFile, FormulaEdge};
 use records::{Edge, Guard, NONE, Node, Rule};
 use scale::Scale;
 use std::marker::PhantomData;
-use writing::{Drawn, put_edge};
+use writing::{Drawn, Shaped};
 
 // An edge with that guard to where a formula edge leads.
 fn opened<S: Scale>(guard: Guard, edge: FormulaEdge) -> Edge
@@ -22,63 +22,6 @@ fn opened<S: Scale>(guard: Guard, edge: FormulaEdge) -> Edge
     }
 }
 
-// Writes an edge for each rule with the label of a formula edge for result, in rule order; the index after them.
-fn put_ruled<S: Scale>(rules: &[Rule], edge: FormulaEdge, edges: &mut [Edge], at: u32) -> u32
-    requires rules { length rules.now ≤ 256 }
-    requires room { at + length (rules_for edge.label 0 rules.now) ≤ length edges.old }
-    requires few { at + length (rules_for edge.label 0 rules.now) < 2 ^ 32 }
-    ensures end { result ≡ at + length (rules_for edge.label 0 rules.now) }
-    ensures edges { edges.new ≡ filled at (map (ruled S.Scale.algebra.highest edge.target) (rules_for edge.label 0 rules.now)) edges.old }
-{
-    let mut end = at;
-    let mut number = 0;
-    // the rules in their order, their number counted beside
-    for rule in rules {
-        if rule.result == edge.label {
-            let next = opened::<S>(Guard::By { rule: number }, edge);
-            end = put_edge(edges, end, next);
-        }
-        number += 1;
-    }
-    end
-}
-
-// Writes what a formula edge becomes; the index after it.
-fn put_opened<S: Scale>(rules: &[Rule], edge: FormulaEdge, edges: &mut [Edge], at: u32) -> u32
-    requires rules { length rules.now ≤ 256 }
-    requires room { at + length (opened_edge S.Scale.algebra rules.now edge) ≤ length edges.old }
-    requires few { at + length (opened_edge S.Scale.algebra rules.now edge) < 2 ^ 32 }
-    ensures end { result ≡ at + length (opened_edge S.Scale.algebra rules.now edge) }
-    ensures edges { edges.new ≡ filled at (opened_edge S.Scale.algebra rules.now edge) edges.old }
-{
-    if edge.label == NONE {
-        let next = opened::<S>(Guard::Plain, edge);
-        put_edge(edges, at, next)
-    } else {
-        put_ruled::<S>(rules, edge, edges, at)
-    }
-}
-
-// Writes the edges of node `q` of the formula's graph; the index after them.
-fn put_node<S: Scale>(file: &CaseFile, rules: &[Rule], q: u16, edges: &mut [Edge], at: u32) -> u32
-    requires rules { rules.now ≡ (book_in file.now.bytes.now file.now.header).rules }
-    requires measured { Measured file.now.bytes.now file.now.header }
-    requires within { q < file.now.header.nodes }
-    requires room { at + length ((formula_in S.Scale.algebra file.now.bytes.now file.now.header).edges q) ≤ length edges.old }
-    requires few { at + length ((formula_in S.Scale.algebra file.now.bytes.now file.now.header).edges q) < 2 ^ 32 }
-    ensures end { result ≡ at + length ((formula_in S.Scale.algebra file.now.bytes.now file.now.header).edges q) }
-    ensures edges { edges.new ≡ filled at ((formula_in S.Scale.algebra file.now.bytes.now file.now.header).edges q) edges.old }
-{
-    let node = file.node(q);
-    let mut end = at;
-    // the node's own edges in their order
-    for k in 0..node.count {
-        let edge = file.edge((node.first + k) as u16);
-        end = put_opened::<S>(rules, edge, edges, end);
-    }
-    end
-}
-
 // The formula's graph over the rules of the book, as it is at the scale.
 #[derive_where(Clone, Copy)]
 pub(crate) struct Formula<'a, 'b, S> {
@@ -87,27 +30,84 @@ pub(crate) struct Formula<'a, 'b, S> {
     pub(crate) scale: PhantomData<S>,
 }
 
-impl<'a, 'b, S: Scale> Drawn for Formula<'a, 'b, S> {
-    ghost picture = { λ s. formula_in S.Scale.algebra s.file.bytes.now s.file.header };
+impl<'a, 'b, S: Scale> Formula<'a, 'b, S> {
+    // Writes an edge for each rule with the label of a formula edge for result, in rule order; how many there are.
+    fn put_ruled(&self, edge: FormulaEdge, room: &mut [Edge]) -> usize
+        requires rules { length self.now.rules.now ≤ 256 }
+        requires room { length (rules_for edge.label 0 self.now.rules.now) ≤ length room.old }
+        ensures count { result ≡ length (rules_for edge.label 0 self.now.rules.now) }
+        ensures room { room.new ≡ over (map (ruled S.Scale.algebra.highest edge.target) (rules_for edge.label 0 self.now.rules.now)) room.old }
+    {
+        // the count is the answer, so it is kept beside the loop over the rules
+        let mut count = 0;
+        // the rules in their order
+        for (number, rule) in self.rules.iter().enumerate() {
+            if rule.result == edge.label {
+                let guard = Guard::By {
+                    rule: number as u16,
+                };
+                room[count] = opened::<S>(guard, edge);
+                count += 1;
+            }
+        }
+        count
+    }
 
-    ghost drawable = { λ s. Measured s.file.bytes.now s.file.header × (s.rules.now ≡ (book_in s.file.bytes.now s.file.header).rules) };
+    // Writes what a formula edge becomes; how many edges that is.
+    fn put_opened(&self, edge: FormulaEdge, room: &mut [Edge]) -> usize
+        requires rules { length self.now.rules.now ≤ 256 }
+        requires room { length (opened_edge S.Scale.algebra self.now.rules.now edge) ≤ length room.old }
+        ensures count { result ≡ length (opened_edge S.Scale.algebra self.now.rules.now edge) }
+        ensures room { room.new ≡ over (opened_edge S.Scale.algebra self.now.rules.now edge) room.old }
+    {
+        if edge.label == NONE {
+            room[0] = opened::<S>(Guard::Plain, edge);
+            1
+        } else {
+            self.put_ruled(edge, room)
+        }
+    }
+
+    // Writes the edges of node `q` of the formula's graph; how many there are.
+    fn put_node(&self, q: u16, room: &mut [Edge]) -> usize
+        requires rules { self.now.rules.now ≡ (book_in self.now.file.bytes.now self.now.file.header).rules }
+        requires measured { Measured self.now.file.bytes.now self.now.file.header }
+        requires within { q < self.now.file.header.nodes }
+        requires room { length ((formula_in S.Scale.algebra self.now.file.bytes.now self.now.file.header).edges q) ≤ length room.old }
+        ensures count { result ≡ length ((formula_in S.Scale.algebra self.now.file.bytes.now self.now.file.header).edges q) }
+        ensures room { room.new ≡ over ((formula_in S.Scale.algebra self.now.file.bytes.now self.now.file.header).edges q) room.old }
+    {
+        let node = self.file.node(q);
+        let mut count = 0;
+        // the node's own edges in their order
+        for k in 0..node.count {
+            let edge = self.file.edge((node.first + k) as u16);
+            count += self.put_opened(edge, &mut room[count..]);
+        }
+        count
+    }
+}
+
+impl<'a, 'b, S: Scale> Shaped for Formula<'a, 'b, S> {
+    ghost graph = { λ s. formula_in S.Scale.algebra s.file.bytes.now s.file.header };
+
+    ghost ready = { λ s. Measured s.file.bytes.now s.file.header × (s.rules.now ≡ (book_in s.file.bytes.now s.file.header).rules) };
 
     fn nodes(&self) -> u64 {
         u64::from(self.file.header.nodes)
     }
+}
 
+impl<'a, 'b, S: Scale> Drawn for Formula<'a, 'b, S> {
     fn node(&self, q: u32, first: u32, count: u32) -> Node {
-        let node = self.file.node(q as u16);
         Node {
-            kind: node.kind,
-            block: node.block,
             first,
             count,
-            value: node.value,
+            ..self.file.node(q as u16)
         }
     }
 
-    fn put_edges(&self, q: u32, edges: &mut [Edge], at: u32) -> u32 {
-        put_node::<S>(&self.file, self.rules, q as u16, edges, at)
+    fn put_edges(&self, q: u32, room: &mut [Edge]) -> usize {
+        self.put_node(q as u16, room)
     }
 }

@@ -1,46 +1,52 @@
 -- What is put into a memory piece by piece, and the rows of a graph one by one.
-use Rattle.std.proofs.Common.{◌≡◌, ℕ, zero, suc, ◌+◌, ◌-◌, ◌<◌, ◌≤◌, List, [], ◌∷◌, ◌++◌, map, length, take, drop, set, sym, refl, ap, ◌∙◌, append_assoc, add-zero, zero-add, add-one, arith, length-append, length-drop}
+use Rattle.std.proofs.Common.{◌≡◌, ℕ, zero, suc, ◌+◌, ◌-◌, ◌<◌, ◌≤◌, List, [], ◌∷◌, ◌++◌, map, length, take, drop, set, sym, refl, ap, ◌∙◌, append_assoc, add-zero, zero-add, add-one, arith, length-append, length-drop, length-take}
 use Rattle.std.specs.List.{range_with_len}
 use Rattle.std.proofs.lemmas.List.FromFn.{map-range_with_len_more, length-map-range_with_len}
-use Rattle.std.proofs.lemmas.List.{append-nil, take-append-drop, take_at, drop_at, drop-drop, set_split, length-take-le}
+use Rattle.std.proofs.lemmas.List.{append-nil, take_at, drop_at, drop-drop, set_split, take_all, drop_all}
+use borrow.Rule.Slice.PartMut.{put_mid}
 use Rattle.records.specs.declared.Edge.{Edge}
 use Rattle.records.specs.declared.Node.{Node}
 use Rattle.meaning.specs.Graph.{Graph}
 use Rattle.meaning.specs.Quotient.{gathered}
 use Rattle.calls.specs.Memory.{edges_before, node_row, edge_rows, over}
-use Rattle.writing.specs.Filled.{filled, row}
+use Rattle.writing.specs.Row.{row}
 
 module _ {X : Type 0} where
-  pub filled_none : (at : ℕ) (before : List X) → filled at [] before ≡ before
-  filled_none at before = simp (append-nil, add-zero) (take-append-drop at before)
+  pub length_over : (out before : List X) → length out ≤ length before → length (over out before) ≡ length before
+  length_over out before h = omega (arith, length-append out (drop (length out) before), length-drop (length out) before)
 
-  -- the length of what stands before the index
-  front : (at : ℕ) (out before : List X) → at + length out ≤ length before → length (take at before ++ out) ≡ at + length out
-  front at out before h = length-append (take at before) out ∙ ap (λ n. n + length out) (length-take-le at before (omega arith))
+  -- one piece more behind those before
+  pub over_next : (count : ℕ) (out piece before now after : List X) → now ≡ over out before → count ≡ length out
+      → after ≡ take count now ++ over piece (drop count now) → after ≡ over (out ++ piece) before
+  over_next count out piece before now after so_far here step =
+      let D = drop (length out) before in
+      let head : take count now ≡ out = ap (take count) so_far ∙ take_at out D count (sym here) in
+      let tail : drop count now ≡ D = ap (drop count) so_far ∙ drop_at out D count (sym here) in
+      step ∙ ap (λ l. l ++ over piece (drop count now)) head ∙ ap (λ l. out ++ over piece l) tail
+      ∙ sym (append_assoc out piece (drop (length piece) D))
+      ∙ ap (λ l. (out ++ piece) ++ l) (drop-drop (length piece) (length out) before ∙ ap (λ n. drop n before) (sym (length-append out piece)))
 
-  pub length_filled : (at : ℕ) (out before : List X) → at + length out ≤ length before → length (filled at out before) ≡ length before
-  length_filled at out before h = omega (arith, length-append (take at before ++ out) (drop (at + length out) before), front at out before h, length-drop (at + length out) before)
+  -- a piece at the front of what stands behind an index
+  pub behind : (at : ℕ) (piece now room : List X) → at ≤ length now → room ≡ over piece (take (length now - at) (drop at now))
+      → put_mid at (length now - at) now room ≡ take at now ++ over piece (drop at now)
+  behind at piece now room within step =
+      let size : length (drop at now) ≤ length now - at = omega (arith, length-drop at now) in
+      ap (λ l. take at now ++ (room ++ l)) (drop_all (length now - at) (drop at now) size)
+      ∙ ap (λ l. take at now ++ l) (append-nil room ∙ step ∙ ap (over piece) (take_all (length now - at) (drop at now) size))
 
-  -- one piece after another
-  pub filled_more : (at : ℕ) (a b before : List X) → at + length a ≤ length before → filled (at + length a) b (filled at a before) ≡ filled at (a ++ b) before
-  filled_more at a b before h =
-      let F = take at before ++ a in
-      let D = drop (at + length a) before in
-      let size = front at a before h in
-      let head : take (at + length a) (F ++ D) ≡ F = take_at F D (at + length a) size in
-      let tail : drop (at + length a + length b) (F ++ D) ≡ drop (at + length (a ++ b)) before =
-      sym (drop-drop (length b) (at + length a) (F ++ D)) ∙ ap (drop (length b)) (drop_at F D (at + length a) size) ∙ drop-drop (length b) (at + length a) before
-      ∙ ap (λ n. drop n before) (omega (arith, length-append a b)) in
-      ap (λ l. (l ++ b) ++ drop (at + length a + length b) (F ++ D)) head
-      ∙ ap (λ l. (F ++ b) ++ l) tail
-      ∙ ap (λ l. l ++ drop (at + length (a ++ b)) before) (append_assoc (take at before) a b)
+  -- all that a front of a memory has room for
+  pub over_front : (out before : List X) (n : ℕ) → n ≡ length out → over out (take n before) ++ drop n before ≡ over out before
+  over_front out before n size =
+      let rest : drop (length out) (take n before) ≡ [] = drop_all (length out) (take n before) (omega (arith, length-take n before)) in
+      ap (λ l. l ++ drop n before) (ap (λ l. out ++ l) rest ∙ append-nil out) ∙ ap (λ k. out ++ drop k before) size
 
-  pub filled_front : (out before : List X) → filled 0 out before ≡ over out before
-  filled_front out before = ap (λ n. out ++ drop n before) (zero-add (length out))
-
-  -- one entry
-  pub filled_one : (at : ℕ) (x : X) (before : List X) → at < length before → set before at x ≡ filled at (x ∷ []) before
-  filled_one at x before h = set_split before at x h ∙ sym (append_assoc (take at before) (x ∷ []) (drop (suc at) before)) ∙ ap (λ n. (take at before ++ x ∷ []) ++ drop n before) (sym (add-one at))
+  -- one entry more
+  pub over_one : (count : ℕ) (x : X) (out before now : List X) → now ≡ over out before → count ≡ length out → length out < length before
+      → set now count x ≡ over (out ++ x ∷ []) before
+  over_one count x out before now so_far here within =
+      let long : length now ≡ length before = ap length so_far ∙ length_over out before (omega arith) in
+      over_next count out (x ∷ []) before now (set now count x) so_far here
+      (set_split now count x (omega arith) ∙ ap (λ l. take count now ++ x ∷ l) (ap (λ n. drop n now) (sym (add-one count)) ∙ sym (drop-drop 1 count now)))
 
 -- the pieces of the numbers so far, and those of the next
 pub gathered_more : {Y : Type 0} (f : ℕ → List Y) (a n : ℕ) → gathered f (range_with_len a (n + 1)) ≡ gathered f (range_with_len a n) ++ f (a + n)
@@ -78,37 +84,23 @@ edges_within G q h =
 pub edges_with : (G : Graph) (q : ℕ) → q < G.nodes → length (gathered G.edges (range_with_len 0 q)) + length (G.edges q) ≤ length (edge_rows G)
 edges_with G q h = omega (arith, length_more G q, edges_within G (q + 1) (omega arith))
 
--- one piece more behind those before
-pub filled_next : {X : Type 0} (at end : ℕ) (out piece before now after : List X) → now ≡ filled at out before → end ≡ at + length out → at + length out ≤ length before → after ≡ filled end piece now → after ≡ filled at (out ++ piece) before
-filled_next at end out piece before now after so_far here room step =
-    step ∙ ap (λ k. filled k piece now) here ∙ ap (filled (at + length out) piece) so_far ∙ filled_more at out piece before room
-
--- at the front of a memory
-pub next_filled : {X : Type 0} (end : ℕ) (out piece before now after : List X) → now ≡ filled 0 out before → end ≡ length out → length out ≤ length before → after ≡ filled end piece now → after ≡ filled 0 (out ++ piece) before
-next_filled end out piece before now after so_far here room step = filled_next 0 end out piece before now after so_far (omega arith) (omega arith) step
-
 -- the turn of a loop that writes a graph: a node is written behind those before, with its edges
 module _ (G : Graph) (q at : ℕ) (here : at ≡ length (gathered G.edges (range_with_len 0 q))) where
-  pub edges_step : (before now after : List Edge) → length (gathered G.edges (range_with_len 0 q)) ≤ length before
-      → now ≡ filled 0 (gathered G.edges (range_with_len 0 q)) before → after ≡ filled at (G.edges q) now
-      → after ≡ filled 0 (gathered G.edges (range_with_len 0 (q + 1))) before
-  edges_step before now after room so_far step =
-      next_filled at (gathered G.edges (range_with_len 0 q)) (G.edges q) before now after so_far here room step ∙ ap (λ l. filled 0 l before) (sym (edges_more G q))
+  pub edges_step : (before now after : List Edge) → now ≡ over (gathered G.edges (range_with_len 0 q)) before
+      → after ≡ take at now ++ over (G.edges q) (drop at now) → after ≡ over (gathered G.edges (range_with_len 0 (q + 1))) before
+  edges_step before now after so_far step =
+      over_next at (gathered G.edges (range_with_len 0 q)) (G.edges q) before now after so_far here step ∙ ap (λ l. over l before) (sym (edges_more G q))
 
-  pub node_is : (end : ℕ) → end ≡ at + length (G.edges q) → row G q at (end - at) ≡ node_row G q
-  node_is end there =
-      let first : at ≡ edges_before G q = here ∙ sym (before_is G q) in
-      let count : end - at ≡ length (G.edges q) = omega arith in
-      ap (λ k. row G q at k) count ∙ ap (λ k. row G q k (length (G.edges q))) first
+  pub node_is : (count : ℕ) → count ≡ length (G.edges q) → row G q at count ≡ node_row G q
+  node_is count many = ap (λ k. row G q at k) many ∙ ap (λ k. row G q k (length (G.edges q))) (here ∙ sym (before_is G q))
 
-  pub nodes_step : (end : ℕ) (before now : List Node) (x : Node) → q < length before → end ≡ at + length (G.edges q)
-      → now ≡ filled 0 (map (node_row G) (range_with_len 0 q)) before → x ≡ row G q at (end - at)
-      → set now q x ≡ filled 0 (map (node_row G) (range_with_len 0 (q + 1))) before
-  nodes_step end before now x within there so_far is =
+  pub nodes_step : (count : ℕ) (before now : List Node) (x : Node) → q < length before → count ≡ length (G.edges q)
+      → now ≡ over (map (node_row G) (range_with_len 0 q)) before → x ≡ row G q at count
+      → set now q x ≡ over (map (node_row G) (range_with_len 0 (q + 1))) before
+  nodes_step count before now x within many so_far is =
       let size = length-map-range_with_len (node_row G) 0 q in
-      let long : length now ≡ length before = ap length so_far ∙ length_filled 0 (map (node_row G) (range_with_len 0 q)) before (omega arith) in
-      next_filled q (map (node_row G) (range_with_len 0 q)) (x ∷ []) before now (set now q x) so_far (sym size) (omega arith) (filled_one q x now (omega arith))
-      ∙ ap (λ l. filled 0 l before) (ap (λ y. map (node_row G) (range_with_len 0 q) ++ y ∷ []) (is ∙ node_is end there) ∙ sym (map-range_with_len_more (node_row G) 0 q q (omega arith)))
+      over_one q x (map (node_row G) (range_with_len 0 q)) before now so_far (sym size) (omega arith)
+      ∙ ap (λ l. over l before) (ap (λ y. map (node_row G) (range_with_len 0 q) ++ y ∷ []) (is ∙ node_is count many) ∙ sym (map-range_with_len_more (node_row G) 0 q q (omega arith)))
 
 -- a node whose edges pass the limit takes the graph past it
 pub past_limit : (G : Graph) (q total more limit : ℕ) → q < G.nodes → total ≡ length (gathered G.edges (range_with_len 0 q)) → more ≡ length (G.edges q) → limit - total < more → limit < length (edge_rows G)
@@ -127,16 +119,15 @@ gathered_within f a k n h =
     omega (arith, gathered_grows f a k (n - k), ap (λ j. length (gathered f (range_with_len a j))) e)
 
 -- the turn of a loop that writes what is gathered piece by piece
-module _ {Y : Type 0} (f : ℕ → List Y) (a k n at end : ℕ) (before now : List Y) (within : k < n)
-    (here : end ≡ at + length (gathered f (range_with_len a k))) (so_far : now ≡ filled at (gathered f (range_with_len a k)) before)
-    (room : at + length (gathered f (range_with_len a n)) ≤ length before) where
-  pub gathered_end : (next : ℕ) → next ≡ end + length (f (a + k)) → next ≡ at + length (gathered f (range_with_len a (k + 1)))
-  gathered_end next step = omega (arith, ap length (gathered_more f a k), length-append (gathered f (range_with_len a k)) (f (a + k)))
+module _ {Y : Type 0} (f : ℕ → List Y) (a k n count : ℕ) (before now : List Y) (within : k < n)
+    (here : count ≡ length (gathered f (range_with_len a k))) (so_far : now ≡ over (gathered f (range_with_len a k)) before) where
+  pub gathered_end : (more : ℕ) → more ≡ length (f (a + k)) → count + more ≡ length (gathered f (range_with_len a (k + 1)))
+  gathered_end more step = omega (arith, ap length (gathered_more f a k), length-append (gathered f (range_with_len a k)) (f (a + k)))
 
-  pub gathered_room : end + length (f (a + k)) ≤ at + length (gathered f (range_with_len a n))
+  pub gathered_room : count + length (f (a + k)) ≤ length (gathered f (range_with_len a n))
   gathered_room = omega (arith, ap length (gathered_more f a k), length-append (gathered f (range_with_len a k)) (f (a + k)), gathered_within f a (k + 1) n (omega arith))
 
-  pub gathered_next : (after : List Y) → after ≡ filled end (f (a + k)) now → after ≡ filled at (gathered f (range_with_len a (k + 1))) before
+  pub gathered_next : (after : List Y) → after ≡ take count now ++ over (f (a + k)) (drop count now) → after ≡ over (gathered f (range_with_len a (k + 1))) before
   gathered_next after step =
-      filled_next at end (gathered f (range_with_len a k)) (f (a + k)) before now after so_far here (omega (arith, gathered_within f a k n (omega arith))) step
-      ∙ ap (λ l. filled at l before) (sym (gathered_more f a k))
+      over_next count (gathered f (range_with_len a k)) (f (a + k)) before now after so_far here step
+      ∙ ap (λ l. over l before) (sym (gathered_more f a k))

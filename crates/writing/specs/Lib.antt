@@ -1,2 +1,2 @@
 -- The definitions that the contracts of writing cite.
-pub mod Filled
+pub mod Row

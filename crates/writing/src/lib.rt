@@ -2,9 +2,7 @@
 #![tactic(auto)]
 
 mod drawing;
-mod edges;
 mod room;
 
-pub use drawing::{Counted, Drawn, count_edges, write};
-pub use edges::put_edge;
-pub use room::{check_edges, check_nodes, check_room};
+pub use drawing::{Counted, Drawn, Shaped, count_edges, write};
+pub use room::{MOST_EDGES, MOST_NODES, check_count, check_room};

@@ -1,6 +1,7 @@
 // Reading a rule book.
-ghost use Rattle.std.specs.Prelude.{◌≡◌};
-ghost use Rattle.book.specs.Model.{model};
+ghost use Rattle.std.specs.Prelude.{◌≡◌, true};
+ghost use Rattle.meaning.specs.Check.{every};
+ghost use Rattle.book.specs.Parts.{has_part};
 
 use super::RuleBook;
 use records::{Rule, Sign};
@@ -8,21 +9,22 @@ use records::{Rule, Sign};
 impl RuleBook {
     // How many places the case has.
     pub fn places(&self) -> u8
-        ensures { result ≡ (model self.now).places }
+        ensures { result ≡ self.now.places }
     {
         self.places
     }
 
-    // The rules of the case in their order.
+    // The rules of the case in their order; each has a participant within the places.
     pub fn rules(&self) -> &[Rule]
-        ensures { result.now ≡ (model self.now).rules }
+        ensures rules { result.now ≡ self.now.rules }
+        ensures parts { every (has_part self.now.places) self.now.rules ≡ true }
     {
         self.rules.as_slice()
     }
 
     // The signs of the case's blocks in their order.
     pub fn signs(&self) -> &[Sign]
-        ensures { result.now ≡ (model self.now).signs }
+        ensures { result.now ≡ self.now.signs }
     {
         self.signs.as_slice()
     }

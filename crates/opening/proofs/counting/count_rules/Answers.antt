@@ -1,14 +1,22 @@
-use Rattle.std.proofs.Common.{sym, ◌∙◌, arith}
-use Rattle.std.proofs.lemmas.Bool.{eq-eqb, ne_eqb}
+use Rattle.std.proofs.Common.{ℕ, Bool, eqb, length, sym, ap, ◌∙◌, rules, arith}
+use Rattle.std.specs.List.{range_with_len}
+use Rattle.std.proofs.lemmas.Iterator.{YieldsList-from_range}
+use Rattle.std.proofs.lemmas.Iterator.Consumers.{YieldsList-from_filter, count_from_yields_List}
+use Rattle.std.proofs.lemmas.List.FromFn.{length-range_with_len}
+use Rattle.std.proofs.lemmas.List.Sums.{length-filter, count_by-le-length}
+use borrow.Author.Tests.{tests}
 use Rattle.format.specs.Layout.{rule_row}
-use Rattle.opening.proofs.Ruled.{counted_one, counted_none}
+use Rattle.opening.proofs.Ruled.{rules_counted}
 use Rattle.opening.proofs.counting.count_rules.Goals as goal
-use Rattle.opening.proofs.counting.count_rules.Goals.{then-label, else-label}
 
-pub loop-r-preserved : goal.loop-r-preserved
-loop-r-preserved c =
-    let row = rule_row c.args.file.now.bytes.now c.args.file.now.header in
-    elim c.if-label.branch [
-      | then-label w ↦ (w.n-is ∙ counted_one row c.args.label c.loop-r.r c.loop-r.n (eq-eqb _ _ (sym c.label.ensures ∙ w.if-label.true)) c.loop-r.invariant.0, omega (arith, w.n-is))
-      | else-label w ↦ (w.n-is ∙ counted_none row c.args.label c.loop-r.r c.loop-r.n (ne_eqb _ _ (λ e. w.if-label.false (c.label.ensures ∙ e))) c.loop-r.invariant.0, omega (arith, w.n-is))
-    ]
+pub returns : goal.returns
+returns c =
+    let h = c.args.file.now.header in
+    let row = rule_row c.args.file.now.bytes.now h in
+    let test : ℕ → Bool = λ r. eqb (row r).result c.args.label in
+    let found = count_from_yields_List c.filter.result c.count.result c.count.ensures.ran
+    (YieldsList-from_filter _ test (YieldsList-from_range 0 h.rules h.rules c.filter.ensures.source (omega arith)) c.filter.ensures.closure (λ x b q k. search (rules, tests))) in
+    record {
+      result = found ∙ ap length (sym (rules_counted row c.args.label 0 h.rules));
+      few = omega (arith, found, length-filter test (range_with_len 0 h.rules), count_by-le-length test (range_with_len 0 h.rules), length-range_with_len 0 h.rules);
+    }

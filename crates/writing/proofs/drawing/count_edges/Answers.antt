@@ -1,20 +1,23 @@
-use Rattle.std.proofs.Common.{◌<◌, arith}
+use Rattle.std.proofs.Common.{◌<◌, length, rules, arith}
+use Rattle.calls.specs.Memory.{edge_rows}
+use Rattle.calls.specs.Outcome.{most_edges}
 use Rattle.writing.proofs.Filling.{edges_with, length_more, past_limit}
 use Rattle.writing.proofs.drawing.count_edges.Goals as goal
 
-pub returns-in_default : goal.returns-in_default
-returns-in_default g c =
-    let G = g.C.Counted.graph c.args.counted.now in
+pub returns-in_err-more : goal.returns-in_err-more
+returns-in_err-more g c =
+    let G = g.C.Shaped.graph c.args.counted.now in
     let within : c.loop-q.q < G.nodes = omega arith in
-    omega (arith, edges_with G c.loop-q.q within, c.in_default.ensures)
+    let past : most_edges < length (edge_rows G) = omega (arith, edges_with G c.loop-q.q within, c.in_err-more.ensures) in
+    search rules
 
 pub returns-then-more-total : goal.returns-then-more-total
 returns-then-more-total g c =
-    let G = g.C.Counted.graph c.args.counted.now in
+    let G = g.C.Shaped.graph c.args.counted.now in
     let within : c.loop-q.q < G.nodes = omega arith in
-    past_limit G c.loop-q.q c.loop-q.total c.in-Some.more 4194304 within c.loop-q.invariant.0 c.in-Some.ensures c.if-more-total.true
+    past_limit G c.loop-q.q c.loop-q.total c.in_ok-more.more 4194304 within c.loop-q.invariant.0 c.in_ok-more.ensures c.if-more-total.true
 
 pub loop-q-preserved : goal.loop-q-preserved
 loop-q-preserved g c =
-    let G = g.C.Counted.graph c.args.counted.now in
-    (omega (arith, length_more G c.loop-q.q, c.in-Some.ensures, c.loop-q.invariant.0), omega arith)
+    let G = g.C.Shaped.graph c.args.counted.now in
+    (omega (arith, length_more G c.loop-q.q, c.in_ok-more.ensures, c.loop-q.invariant.0), omega arith)

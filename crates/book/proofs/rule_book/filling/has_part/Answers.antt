@@ -1,11 +1,8 @@
-use Rattle.std.proofs.Common.{sym}
+use Rattle.std.proofs.Common.{refl, rules}
+use borrow.Author.Tests.{tests}
 use Rattle.records.specs.Codes.{takes_part}
-use Rattle.book.proofs.Turns.{any_more, any_found}
+use Rattle.meaning.proofs.Listed.{any_below}
 use Rattle.book.proofs.rule_book.filling.has_part.Goals as goal
 
-pub returns-then-takes_part : goal.returns-then-takes_part
-returns-then-takes_part c =
-    sym (any_found (takes_part c.args.rule.now) c.loop-place.place c.args.places c.loop-place-test.true (sym c.if-takes_part.ensures))
-
-pub loop-place-preserved : goal.loop-place-preserved
-loop-place-preserved c = any_more (takes_part c.args.rule.now) c.loop-place.place c.loop-place.invariant (sym c.if-takes_part.ensures)
+pub returns : goal.returns
+returns c = any_below c.args.places (takes_part c.args.rule.now) _ _ _ refl (λ x b q k. search (rules, tests)) c.any.ensures.ran
