@@ -1,6 +1,7 @@
 // What is said of an input: its refusal, or the account of the case that it is.
 ghost use Rattle.std.specs.Prelude.{◌≡◌, IfOk, string_bytes, ◌==◌};
-ghost use Rattle.format.specs.Layout.{scale_number, header_of};
+ghost use Rattle.format.specs.Case.{IsCaseOf};
+ghost use Rattle.format.specs.Layout.{scale_number};
 ghost use Rattle.fault.specs.First.{Answers};
 ghost use Rattle.account.specs.Report.{case_fault, input_fault, report_text, outcome_text};
 
@@ -15,15 +16,16 @@ use std::alloc::{AllocError, Global};
 pub const MOST: usize = 65536;
 
 // Whether the header names the variants scale.
-fn names_variants(bytes: &[u8]) -> bool
+pub(crate) fn names_variants(bytes: &[u8]) -> bool
     ensures { result ≡ (scale_number bytes.now == 1) }
 {
-    header_field(bytes, 0) == Variants::header_number()
+    header_field(bytes, 0) == Variants::NUMBER
 }
 
 // The case at the scale that its header names, at yes/no where it names none.
+#[tactic(auto, unfolding(crate::specs::Report::case_fault))]
 fn open_case<'a>(bytes: &'a [u8]) -> Result<CaseFile<'a>, Fault>
-    ensures { Answers (case_fault bytes.now) (λ c. (c.bytes.now ≡ bytes.now) × (c.header ≡ header_of bytes.now)) result }
+    ensures { Answers (case_fault bytes.now) (IsCaseOf bytes.now) result }
 {
     if names_variants(bytes) {
         check::<Variants>(bytes)
@@ -34,7 +36,7 @@ fn open_case<'a>(bytes: &'a [u8]) -> Result<CaseFile<'a>, Fault>
 
 // The case that an input is, or why it is refused.
 pub fn open_input<'a>(bytes: &'a [u8]) -> Result<CaseFile<'a>, Fault>
-    ensures { Answers (input_fault bytes.now) (λ c. (c.bytes.now ≡ bytes.now) × (c.header ≡ header_of bytes.now)) result }
+    ensures { Answers (input_fault bytes.now) (IsCaseOf bytes.now) result }
 {
     if bytes.len() > MOST {
         Err(Fault::Oversize)
@@ -44,21 +46,21 @@ pub fn open_input<'a>(bytes: &'a [u8]) -> Result<CaseFile<'a>, Fault>
 }
 
 // The account of the case that an input is, or the line of its refusal.
-pub fn report(bytes: &[u8], heap: Global) -> Result<String, AllocError>
+pub fn report(alloc: Global, bytes: &[u8]) -> Result<String, AllocError>
     ensures { IfOk result (λ t. string_bytes t ≡ report_text bytes.now) }
 {
     match open_input(bytes) {
-        Ok(case) => account(&case, heap),
-        Err(fault) => fault.line(heap),
+        Ok(case) => account(alloc, &case),
+        Err(fault) => fault.line(alloc),
     }
 }
 
 // The same in one line.
-pub fn outcome(bytes: &[u8], heap: Global) -> Result<String, AllocError>
+pub fn outcome(alloc: Global, bytes: &[u8]) -> Result<String, AllocError>
     ensures { IfOk result (λ t. string_bytes t ≡ outcome_text bytes.now) }
 {
     match open_input(bytes) {
-        Ok(_) => format!(in heap; "accepted\n"),
-        Err(fault) => fault.line(heap),
+        Ok(_) => format!(in alloc; "accepted\n"),
+        Err(fault) => fault.line(alloc),
     }
 }

@@ -1,169 +1,112 @@
 // The account of a whole case, section by section.
-ghost use Rattle.std.specs.Prelude.{◌≡◌, ◌<◌, List, IfOk, string_bytes};
-ghost use Rattle.account.specs.Account.{scale_word, heading, rule_text, rules_text, block_text, blocks_text, node_text, nodes_text, edge_text, edges_text, place_text, account_text};
+ghost use Rattle.std.specs.Prelude.{◌≡◌, ℕ, List, IfOk, string_bytes};
+ghost use Rattle.fault.specs.Each.{Below, Each};
+ghost use Rattle.format.specs.Layout.{scale_number};
+ghost use Rattle.account.specs.Account.{scale_word, heading, section, rules_text, blocks_text, nodes_text, edges_text, place_text, places_text, account_text};
 
-use format::{CaseFile, header_field};
-use lines::{Pieces, block_line, edge_line, node_line, place_line, rule_line, whole};
+use crate::input::names_variants;
+use format::CaseFile;
+use lines::{block_line, edge_line, node_line, place_line, rule_line, whole};
 use process::Process;
 use std::alloc::{AllocError, Global};
 
-// The number, where it is below the limit.
-fn narrow(i: u16, limit: u8) -> u8
-    ensures { i < limit → result ≡ i }
+// The word for the scale that the header names. A scale is a type, so there is no value of it to print.
+fn scale_word(bytes: &[u8]) -> &'static str
+    ensures { result.now ≡ scale_word (scale_number bytes.now) }
 {
-    i.min(u16::from(limit)) as u8
-}
-
-#[derive(Clone, Copy)]
-struct Rules<'a>(CaseFile<'a>);
-
-impl<'a> Pieces for Rules<'a> {
-    ghost size = { λ s. s.0.header.rules };
-
-    ghost text = { λ s r. rule_text s.0.bytes.now s.0.header r };
-
-    fn count(&self) -> u16 {
-        self.0.header.rules
-    }
-
-    fn piece(&self, i: u16, heap: Global) -> Result<String, AllocError> {
-        rule_line(i, &self.0.rule(i), heap)
+    if names_variants(bytes) {
+        "variants"
+    } else {
+        "yes/no"
     }
 }
 
-#[derive(Clone, Copy)]
-struct Blocks<'a>(CaseFile<'a>);
-
-impl<'a> Pieces for Blocks<'a> {
-    ghost size = { λ s. s.0.header.blocks };
-
-    ghost text = { λ s b. block_text s.0.bytes.now s.0.header b };
-
-    fn count(&self) -> u16 {
-        u16::from(self.0.header.blocks)
-    }
-
-    fn piece(&self, i: u16, heap: Global) -> Result<String, AllocError> {
-        let b = narrow(i, self.0.header.blocks);
-        block_line(b, self.0.sign(b), heap)
-    }
-}
-
-#[derive(Clone, Copy)]
-struct Nodes<'a>(CaseFile<'a>);
-
-impl<'a> Pieces for Nodes<'a> {
-    ghost size = { λ s. s.0.header.nodes };
-
-    ghost text = { λ s i. node_text s.0.bytes.now s.0.header i };
-
-    fn count(&self) -> u16 {
-        self.0.header.nodes
-    }
-
-    fn piece(&self, i: u16, heap: Global) -> Result<String, AllocError> {
-        node_line(i, &self.0.node(i), heap)
-    }
-}
-
-#[derive(Clone, Copy)]
-struct Edges<'a>(CaseFile<'a>);
-
-impl<'a> Pieces for Edges<'a> {
-    ghost size = { λ s. s.0.header.edges };
-
-    ghost text = { λ s e. edge_text s.0.bytes.now s.0.header e };
-
-    fn count(&self) -> u16 {
-        self.0.header.edges
-    }
-
-    fn piece(&self, i: u16, heap: Global) -> Result<String, AllocError> {
-        edge_line(i, &self.0.edge(i), heap)
-    }
-}
-
-#[derive(Clone, Copy)]
-struct Places<'a>(CaseFile<'a>);
-
-impl<'a> Pieces for Places<'a> {
-    ghost size = { λ s. s.0.header.places };
-
-    ghost text = { λ s p. place_text s.0.bytes.now s.0.header p };
-
-    fn count(&self) -> u16 {
-        u16::from(self.0.header.places)
-    }
-
-    fn piece(&self, i: u16, heap: Global) -> Result<String, AllocError> {
-        let p = narrow(i, self.0.header.places);
-        let table = self.0.table_at(p);
-        place_line(
-            p,
-            table.states(),
-            table.transitions(),
-            table.initial(),
-            heap,
-        )
-    }
-}
-
-fn scale_word(number: u32) -> &'static str
-    ensures { result.now ≡ scale_word number }
-{
-    if number == 1 { "variants" } else { "yes/no" }
-}
-
-fn heading(case: &CaseFile<'_>, heap: Global) -> Result<String, AllocError>
+fn heading(alloc: Global, case: &CaseFile<'_>) -> Result<String, AllocError>
     ensures { IfOk result (λ t. string_bytes t ≡ heading case.now.bytes.now case.now.header) }
 {
-    let scale = scale_word(header_field(case.bytes, 0));
+    let scale = scale_word(case.bytes);
     let places = case.header.places;
-    format!(in heap; "scale {scale}\nplaces {places}\n")
+    format!(in alloc; "scale {scale}\nplaces {places}\n")
 }
 
-fn rules_text(case: &CaseFile<'_>, heap: Global) -> Result<String, AllocError>
+// A title with the number of lines, and the lines.
+fn section<F: Fn(u16) -> Result<String, AllocError>>(
+    alloc: Global,
+    title: &str,
+    count: u16,
+    line: F,
+) -> Result<String, AllocError>
+    requires { Below count (F.pre line) }
+    ensures { (text : ℕ → List ℕ) → Each count (F.post line) (λ i r. IfOk r (λ t. string_bytes t ≡ text i)) → IfOk result (λ t. string_bytes t ≡ section title.now count text) }
+{
+    let lines = whole(alloc, count, line)?;
+    format!(in alloc; "{title} {count}\n{lines}")
+}
+
+fn rules_text(alloc: Global, case: &CaseFile<'_>) -> Result<String, AllocError>
     ensures { IfOk result (λ t. string_bytes t ≡ rules_text case.now.bytes.now case.now.header) }
 {
-    let count = case.header.rules;
-    let lines = whole(&Rules(*case), heap)?;
-    format!(in heap; "rules {count}\n{lines}")
+    section(alloc, "rules", case.header.rules, |r| {
+        rule_line(alloc, r, &case.rule(r))
+    })
 }
 
-fn blocks_text(case: &CaseFile<'_>, heap: Global) -> Result<String, AllocError>
+fn blocks_text(alloc: Global, case: &CaseFile<'_>) -> Result<String, AllocError>
     ensures { IfOk result (λ t. string_bytes t ≡ blocks_text case.now.bytes.now case.now.header) }
 {
-    let count = case.header.blocks;
-    let lines = whole(&Blocks(*case), heap)?;
-    format!(in heap; "blocks {count}\n{lines}")
+    let count = u16::from(case.header.blocks);
+    section(alloc, "blocks", count, |b| {
+        block_line(alloc, b as u8, case.sign(b as u8))
+    })
 }
 
-fn nodes_text(case: &CaseFile<'_>, heap: Global) -> Result<String, AllocError>
+fn nodes_text(alloc: Global, case: &CaseFile<'_>) -> Result<String, AllocError>
     ensures { IfOk result (λ t. string_bytes t ≡ nodes_text case.now.bytes.now case.now.header) }
 {
     let count = case.header.nodes;
     let initial = case.header.initial;
-    let lines = whole(&Nodes(*case), heap)?;
-    format!(in heap; "nodes {count}, initial {initial}\n{lines}")
+    let lines = whole(alloc, count, |i| node_line(alloc, i, &case.node(i)))?;
+    format!(in alloc; "nodes {count}, initial {initial}\n{lines}")
 }
 
-fn edges_text(case: &CaseFile<'_>, heap: Global) -> Result<String, AllocError>
+fn edges_text(alloc: Global, case: &CaseFile<'_>) -> Result<String, AllocError>
     ensures { IfOk result (λ t. string_bytes t ≡ edges_text case.now.bytes.now case.now.header) }
 {
-    let count = case.header.edges;
-    let lines = whole(&Edges(*case), heap)?;
-    format!(in heap; "edges {count}\n{lines}")
+    section(alloc, "edges", case.header.edges, |e| {
+        edge_line(alloc, e, &case.edge(e))
+    })
+}
+
+fn place_text(alloc: Global, case: &CaseFile<'_>, p: u8) -> Result<String, AllocError>
+    ensures { IfOk result (λ t. string_bytes t ≡ place_text case.now.bytes.now case.now.header p) }
+{
+    let table = case.table_at(p);
+    place_line(
+        alloc,
+        p,
+        table.states(),
+        table.transitions(),
+        table.initial(),
+    )
+}
+
+fn places_text(alloc: Global, case: &CaseFile<'_>) -> Result<String, AllocError>
+    ensures { IfOk result (λ t. string_bytes t ≡ places_text case.now.bytes.now case.now.header) }
+{
+    let count = u16::from(case.header.places);
+    whole(alloc, count, |p| place_text(alloc, case, p as u8))
 }
 
 // All that a person reads of the case.
-pub fn account(case: &CaseFile<'_>, heap: Global) -> Result<String, AllocError>
+#[tactic(auto, unfolding(crate::specs::Account::account_text))]
+pub fn account(alloc: Global, case: &CaseFile<'_>) -> Result<String, AllocError>
     ensures { IfOk result (λ t. string_bytes t ≡ account_text case.now.bytes.now case.now.header) }
 {
-    let heading = heading(case, heap)?;
-    let rules = rules_text(case, heap)?;
-    let blocks = blocks_text(case, heap)?;
-    let nodes = nodes_text(case, heap)?;
-    let edges = edges_text(case, heap)?;
-    let places = whole(&Places(*case), heap)?;
-    format!(in heap; "{heading}{rules}{blocks}{nodes}{edges}{places}")
+    let heading = heading(alloc, case)?;
+    let rules = rules_text(alloc, case)?;
+    let blocks = blocks_text(alloc, case)?;
+    let nodes = nodes_text(alloc, case)?;
+    let edges = edges_text(alloc, case)?;
+    let places = places_text(alloc, case)?;
+    format!(in alloc; "{heading}{rules}{blocks}{nodes}{edges}{places}")
 }

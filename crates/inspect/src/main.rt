@@ -10,6 +10,6 @@ fn main(rt: HostRuntime) -> io::Result<()> {
     // one byte more than an input may have shows that it is too long
     let mut source = rt.stdin().take(MOST as u64 + 1);
     source.read_to_end(&mut input)?;
-    let text = report(input.as_slice(), rt.alloc())?;
+    let text = report(rt.alloc(), input.as_slice())?;
     print!(rt; "{text}")
 }

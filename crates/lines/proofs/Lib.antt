@@ -1,2 +1,3 @@
 -- The lemmas of lines.
 mod Gathered
+mod Sixteen

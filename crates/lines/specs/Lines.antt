@@ -6,7 +6,7 @@ use Rattle.records.specs.declared.Kind.TheVariants.{AnyOf, AllOf, Fixed}
 use Rattle.records.specs.declared.Node.{Node}
 use Rattle.records.specs.declared.Rule.{Rule}
 use Rattle.records.specs.declared.Sign.{Sign}
-use Rattle.records.specs.declared.Sign.TheVariants.{Least, Greatest}
+use Rattle.records.specs.Words.{kind_word, sign_word}
 use Rattle.format.specs.declared.file.FormulaEdge.{FormulaEdge}
 use Rattle.lines.specs.Gathered.{gathered}
 use Rattle.lines.specs.Hex.{hex}
@@ -19,10 +19,6 @@ part r p =
 abbrev pub rule_line : ℕ → Rule → List ℕ
 rule_line i r =
     codes "rule " ++ (decimal i ++ (codes ": " ++ (gathered 8 (part r) ++ (codes "result " ++ (decimal r.result ++ codes "\n")))))
-
-abbrev pub sign_word : Sign → List ℕ
-sign_word Least = codes "least"
-sign_word Greatest = codes "greatest"
 
 abbrev pub block_line : ℕ → Sign → List ℕ
 block_line b s = codes "block " ++ (decimal b ++ (codes ": " ++ (sign_word s ++ codes "\n")))
@@ -37,8 +33,8 @@ fixed_line i n =
     codes "node " ++ (decimal i ++ (codes ": fixed " ++ (hex n.value ++ (codes ", block " ++ (decimal n.block ++ codes "\n")))))
 
 abbrev pub line_of_kind : Kind → ℕ → Node → List ℕ
-line_of_kind AnyOf i n = joint_line (codes "any-of") i n
-line_of_kind AllOf i n = joint_line (codes "all-of") i n
+line_of_kind AnyOf i n = joint_line (kind_word AnyOf) i n
+line_of_kind AllOf i n = joint_line (kind_word AllOf) i n
 line_of_kind Fixed i n = fixed_line i n
 
 abbrev pub node_line : ℕ → Node → List ℕ

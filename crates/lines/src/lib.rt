@@ -7,4 +7,4 @@ mod pieces;
 
 pub use digits::hex;
 pub use parts::{block_line, edge_line, node_line, place_line, rule_line};
-pub use pieces::{Pieces, whole};
+pub use pieces::whole;

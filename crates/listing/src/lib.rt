@@ -8,19 +8,16 @@ use calls::Remainder;
 use std::alloc::{AllocError, Global};
 
 // The line of an opening, with the counts of the remainder that it wrote.
-pub fn open_line(remainder: &Remainder, heap: Global) -> Result<String, AllocError>
+pub fn open_line(alloc: Global, remainder: &Remainder) -> Result<String, AllocError>
     ensures { IfOk result (λ t. string_bytes t ≡ open_line remainder.now) }
 {
-    let nodes = remainder.nodes;
-    let edges = remainder.edges;
-    format!(in heap; "open {nodes} {edges}\n")
+    format!(in alloc; "open {} {}\n", remainder.nodes, remainder.edges)
 }
 
+// A format each: a function over the name would be longer.
 // The line of a removal, with the place and the counts of the remainder that it wrote.
-pub fn remove_line(place: u8, remainder: &Remainder, heap: Global) -> Result<String, AllocError>
+pub fn remove_line(alloc: Global, place: u8, remainder: &Remainder) -> Result<String, AllocError>
     ensures { IfOk result (λ t. string_bytes t ≡ remove_line place remainder.now) }
 {
-    let nodes = remainder.nodes;
-    let edges = remainder.edges;
-    format!(in heap; "remove {place} {nodes} {edges}\n")
+    format!(in alloc; "remove {place} {} {}\n", remainder.nodes, remainder.edges)
 }

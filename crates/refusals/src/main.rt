@@ -40,7 +40,7 @@ fn main(rt: HostRuntime) -> io::Result<()> {
     for name in NAMES {
         let path = format!(in rt.alloc(); "{name}.case")?;
         let bytes = fs::read(&rt, path.as_str())?;
-        let line = outcome(bytes.as_slice(), rt.alloc())?;
+        let line = outcome(rt.alloc(), bytes.as_slice())?;
         print!(rt; "{name}: {line}")?;
     }
     Ok(())

@@ -1,3 +1,0 @@
--- The lemmas of an account.
-mod Texts
-mod Scales
