@@ -2,6 +2,10 @@
 #![tactic(auto)]
 
 #[cfg(test)]
+mod books;
+#[cfg(test)]
+mod codes;
+#[cfg(test)]
 mod faults;
 #[cfg(test)]
 mod files;

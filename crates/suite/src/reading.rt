@@ -8,7 +8,7 @@ use records::{Kind, NONE, Sign};
 use scale::{Scale, Variants, YesNo};
 use std::test::Fail;
 
-fn checked<'a, S: Scale>(bytes: &'a [u8]) -> Result<CaseFile<'a>, Fail> {
+pub fn checked<'a, S: Scale>(bytes: &'a [u8]) -> Result<CaseFile<'a>, Fail> {
     match check_file::<S>(bytes) {
         Ok(file) => Ok(file),
         Err(fault) => Err(Fail::new(fault.number())),

@@ -31,10 +31,7 @@ fn singles<S: Scale>(rt: &impl Abort, rows: &[Single]) {
 #[test]
 fn yes_no(rt: HostRuntime) {
     assert_eq!(rt; (YesNo::lowest(), YesNo::highest()), (0, 1));
-    assert_eq!(rt;
-        (YesNo::header_number(), YesNo::top_rank(), YesNo::HEIGHT),
-        (0, 1, 1)
-    );
+    assert_eq!(rt; (YesNo::NUMBER, YesNo::HEIGHT), (0, 1));
     singles::<YesNo>(
         &rt,
         &[
@@ -61,14 +58,7 @@ fn yes_no(rt: HostRuntime) {
 #[test]
 fn variants(rt: HostRuntime) {
     assert_eq!(rt; (Variants::lowest(), Variants::highest()), (0, ALL));
-    assert_eq!(rt;
-        (
-            Variants::header_number(),
-            Variants::top_rank(),
-            Variants::HEIGHT,
-        ),
-        (1, 64, 64)
-    );
+    assert_eq!(rt; (Variants::NUMBER, Variants::HEIGHT), (1, 64));
     singles::<Variants>(
         &rt,
         &[
