@@ -56,6 +56,7 @@ fn node_size(file: &CaseFile, q: u16) -> u32
     total
 }
 
+// The graph that `Formula` writes too, but asked before there is a book: a condition of its own, in three lines.
 impl<'a, S: Scale> Shaped for Size<'a, S> {
     ghost graph = { λ s. formula_in S.Scale.algebra s.file.bytes.now s.file.header };
 

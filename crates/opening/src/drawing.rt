@@ -88,6 +88,7 @@ impl<'a, 'b, S: Scale> Formula<'a, 'b, S> {
     }
 }
 
+// The graph that `Size` counts too, here with the rules of the book.
 impl<'a, 'b, S: Scale> Shaped for Formula<'a, 'b, S> {
     ghost graph = { λ s. formula_in S.Scale.algebra s.file.bytes.now s.file.header };
 
