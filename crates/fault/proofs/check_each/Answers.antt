@@ -1,4 +1,3 @@
-use Rattle.std.proofs.Common.{◌≡◌, arith}
 use Rattle.fault.proofs.First.{earliest_none, earliest_more, earliest_found, passed_up}
 use Rattle.fault.proofs.check_each.Goals as goal
 
@@ -13,8 +12,3 @@ pub returns-in_err-check : goal.returns-in_err-check
 returns-in_err-check g c due each =
     passed_up _ _ c.from_residual.ensures.1
     (earliest_found due _ _ _ (c.loop-i.invariant due each) (each _ _ c.loop-i-test.true (c.in_err-check.ensures)) c.loop-i-test.true)
-
-pub returns : goal.returns
-returns g c due each =
-    let e : c.args.n ≡ c.loop-i.i = omega arith in
-    (rw e (c.loop-i.invariant due each), tt)
