@@ -64,7 +64,7 @@ own_edges bs h l i b =
     (earliest_same _ _ n.count (λ k m. ap (λ o. owned_fault bs h o (n.first + k)) (owner_of bs h l i k b m)))
 
 -- the edges up to where a node's are due, node by node
-by_node : (bs : List ℕ) (h : Header) → LaidOut bs h → (i : ℕ) → i ≤ h.nodes → earliest (due bs h i) (edge_fault bs h) ≡ earliest i (own_fault bs h)
+pub by_node : (bs : List ℕ) (h : Header) → LaidOut bs h → (i : ℕ) → i ≤ h.nodes → earliest (due bs h i) (edge_fault bs h) ≡ earliest i (own_fault bs h)
 unfolding earliest
 by_node bs h l zero k = refl
 by_node bs h l (suc i) k =

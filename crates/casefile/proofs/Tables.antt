@@ -25,7 +25,7 @@ placed_none p (Some f) h = let z : ◌≡◌ {A = ℕ} 0 1 = cc in absurd (omega
 placed_none p None h = refl
 
 -- after the tables of all places, the last one is small
-pub last_small : (tables t : List ℕ) (n : ℕ) → 1 ≤ n → earliest n (λ p. option_map (Table p) (table_fault (table_from p tables))) ≡ None
+pub last_small : (tables t : List ℕ) (i n : ℕ) → 1 ≤ n → n ≤ i → earliest i (λ p. option_map (Table p) (table_fault (table_from p tables))) ≡ None
     → t ≡ table_from (n - 1) tables → (states t ≤ 4096) × (transitions t ≤ 16384)
-last_small tables t n b h e =
-    table_small t (ap table_fault e ∙ placed_none (n - 1) _ (earliest_at _ n (n - 1) h (omega arith)))
+last_small tables t i n b l h e =
+    table_small t (ap table_fault e ∙ placed_none (n - 1) _ (earliest_at _ i (n - 1) h (omega arith)))

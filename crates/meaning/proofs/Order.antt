@@ -123,6 +123,10 @@ module _ {A : Algebra} (L : Laws A) where
   pub toward_eq : (σ : Sign) {x y : ℕ} → Value A x → x ≡ y → Toward A σ x y
   toward_eq σ {x} v e = subst (Toward A σ x) e (toward_refl σ v)
 
+  pub toward_from : {σ : Sign} {x y : ℕ} → Toward A σ x y → Value A x
+  toward_from {σ = Least} a = a.ordered.low
+  toward_from {σ = Greatest} a = a.ordered.high
+
   pub toward_to : {σ : Sign} {x y : ℕ} → Toward A σ x y → Value A y
   toward_to {σ = Least} a = a.ordered.high
   toward_to {σ = Greatest} a = a.ordered.low

@@ -88,6 +88,15 @@ module _ {A : Algebra} (L : Laws A) (B : Book) (N : Network) (left : Places) (G 
   marks_on : (q : ℕ) → q < G.nodes → marks q ≡ true → (e : Edge) → In e (G.edges q) → marks e.target ≡ true
   marks_on q lt t e h = (m e.target (f.graph.edges q lt e h).target).1 (follows e ((m q lt).0 t) h)
 
+  pub marks_initial : marks G.initial ≡ true
+  marks_initial = (m G.initial initial).1 begins
+
+  pub old_initial : old (rank marks G.initial) ≡ G.initial
+  old_initial = marked_at marks G.nodes G.initial initial marks_initial
+
+  pub trim_initial : rank marks G.initial < rank marks G.nodes
+  trim_initial = rank_below marks G.initial G.nodes initial marks_initial
+
   pub trim_fits : Fits A B N left (trim_graph marks G)
   trim_fits = record {
     processes = f.processes;

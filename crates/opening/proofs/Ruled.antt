@@ -1,8 +1,10 @@
 -- The rules with a result, one rule after another.
 use Rattle.std.proofs.Common.{◌≡◌, ℕ, zero, suc, ◌+◌, ◌<◌, ◌≤◌, Bool, true, false, cond, eqb, List, [], ◌∷◌, ◌++◌, map, length, get_or, take, drop, set, sym, refl, ap, ◌∙◌, add-zero, arith, length-append}
 use mathlib.Core.List.{map-append}
-use Rattle.std.specs.List.{range_with_len, filter}
+use Rattle.std.specs.List.{range_with_len, filter, sum_by}
 use Rattle.std.proofs.lemmas.List.{length-map, take-append-drop, take_more, length-take-le, append-nil}
+use Rattle.std.proofs.lemmas.List.FromFn.{length-range_with_len}
+use Rattle.std.proofs.lemmas.List.Sums.{length-filter, count_by-le-length}
 use Rattle.std.proofs.lemmas.Bool.{cond-true, cond-false, eq-eqb, ne_eqb}
 use Rattle.records.specs.declared.Edge.{Edge}
 use Rattle.records.specs.declared.Node.{Node}
@@ -49,6 +51,17 @@ rules_counted row label a (suc n) = go (eqb (row a).result label) (rules_counted
     go : (b : Bool) {xs ys : List ℕ} → xs ≡ ys → cond b (a ∷ xs) xs ≡ cond b (a ∷ ys) ys
     go true e = ap (λ l. a ∷ l) e
     go false e = e
+
+-- 1 for a rule that has the result, 0 for any other
+abbrev pub hit : (ℕ → Rule) → ℕ → ℕ → ℕ
+hit row label r = cond (eqb (row r).result label) 1 0
+
+-- how many they are, as a sum over all
+pub rules_summed : (row : ℕ → Rule) (label n : ℕ) → sum_by (hit row label) (range_with_len 0 n) ≡ length (rules_for label 0 (map row (range_with_len 0 n)))
+rules_summed row label n = sym (length-filter (λ r. eqb (row r).result label) (range_with_len 0 n)) ∙ ap length (sym (rules_counted row label 0 n))
+
+pub rules_few : (row : ℕ → Rule) (label n : ℕ) → sum_by (hit row label) (range_with_len 0 n) ≤ n
+rules_few row label n = omega (arith, count_by-le-length (λ r. eqb (row r).result label) (range_with_len 0 n), length-range_with_len 0 n)
 
 -- the size of what is gathered, with the next piece
 pub sum_more : {Y : Type 0} (f : ℕ → List Y) (a k total more : ℕ) → total ≡ length (gathered f (range_with_len a k)) → more ≡ length (f (a + k)) → total + more ≡ length (gathered f (range_with_len a (k + 1)))

@@ -1,6 +1,8 @@
 // Opening a case file.
 ghost use Rattle.std.specs.Prelude.{◌≡◌, ◌≤◌, true, is_ok, IfOk, if◌then◌else◌};
 ghost use Rattle.fault.specs.First.{Answers};
+ghost use Rattle.meaning.specs.Check.{every};
+ghost use Rattle.book.specs.Parts.{has_part};
 ghost use Rattle.calls.specs.Fit.{fits};
 ghost use Rattle.calls.specs.Left.{all_left};
 ghost use Rattle.calls.specs.Memory.{written};
@@ -37,10 +39,13 @@ pub fn open<S: Scale>(
 ) -> Result<Remainder, Fault>
     ensures result { Answers (open_fault S.Scale.algebra S.Scale.NUMBER bytes.now (record { nodes = nodes.entry.now; edges = edges.old })) (λ s. s ≡ opened S.Scale.algebra bytes.now) result }
     ensures book { book.new ≡ (if is_ok result then book_of bytes.now else book.old) }
+    ensures parts { every (has_part book.new.places) book.new.rules ≡ true }
     ensures nodes { nodes.exit.now ≡ (if is_ok result then (written (formula_graph S.Scale.algebra bytes.now) (record { nodes = nodes.entry.now; edges = edges.old })).nodes else nodes.entry.now) }
     ensures edges { edges.new ≡ (if is_ok result then (written (formula_graph S.Scale.algebra bytes.now) (record { nodes = nodes.entry.now; edges = edges.old })).edges else edges.old) }
     ensures fits { IfOk result (λ s. fits S.Scale.algebra book.new s (record { nodes = nodes.exit.now; edges = edges.new }) ≡ true) }
 {
+    // asked here, so that a refusal too can say of the book that every rule in it has a participant
+    let _places = book.places();
     let file = check::<S>(bytes)?;
     let scale = PhantomData::<S>;
     check_room(&Size { file, scale }, &Memories { nodes, edges })?;

@@ -23,9 +23,10 @@ fn count_rules(file: &CaseFile, label: u16) -> u32
     ensures result { result ≡ length (rules_for label 0 (book_in file.now.bytes.now file.now.header).rules) }
     ensures few { result ≤ file.now.header.rules }
 {
+    // a sum of tests, since a filter's count takes a branch for each rule, which costs half the time again
     (0..file.header.rules)
-        .filter(|r| file.label(*r, file.header.places) == label)
-        .count() as u32
+        .map(|r| u32::from(file.label(r, file.header.places) == label))
+        .sum()
 }
 
 // How many edges a formula edge becomes.

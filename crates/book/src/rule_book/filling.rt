@@ -3,7 +3,7 @@ ghost use Rattle.std.specs.Prelude.{◌≡◌, ◌<◌, ◌≤◌, ℕ, true, Li
 ghost use Rattle.std.specs.List.{range_with_len};
 ghost use Rattle.fault.specs.Each.{Below, Each};
 ghost use Rattle.format.specs.Layout.{rule_row, block_sign};
-ghost use Rattle.meaning.specs.Check.{all};
+ghost use Rattle.meaning.specs.Check.{all, every};
 ghost use Rattle.calls.specs.Opening.{book_in};
 ghost use Rattle.book.specs.Cases.{blank, holds};
 ghost use Rattle.book.specs.Parts.{has_part};
@@ -65,7 +65,10 @@ impl RuleBook {
     pub fn fill(&mut self, file: &CaseFile) -> bool
         ensures test { result ≡ holds file.now.bytes.now file.now.header }
         ensures after { self.new ≡ (if result then book_in file.now.bytes.now file.now.header else self.old) }
+        ensures parts { every (has_part self.new.places) self.new.rules ≡ true }
     {
+        // looking inside tells the proof that the book as it is has `parts`
+        let _ = &self.rules;
         if file.header.rules > RULES || file.header.blocks > BLOCKS || !all_parts(file) {
             return false;
         }

@@ -7,9 +7,10 @@ use super::RuleBook;
 use records::{Rule, Sign};
 
 impl RuleBook {
-    // How many places the case has.
+    // How many places the case has; each rule has a participant within them.
     pub fn places(&self) -> u8
-        ensures { result ≡ self.now.places }
+        ensures places { result ≡ self.now.places }
+        ensures parts { every (has_part self.now.places) self.now.rules ≡ true }
     {
         self.places
     }
@@ -24,7 +25,8 @@ impl RuleBook {
 
     // The signs of the case's blocks in their order.
     pub fn signs(&self) -> &[Sign]
-        ensures { result.now ≡ self.now.signs }
+        ensures signs { result.now ≡ self.now.signs }
+        ensures parts { every (has_part self.now.places) self.now.rules ≡ true }
     {
         self.signs.as_slice()
     }

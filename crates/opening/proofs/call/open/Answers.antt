@@ -61,6 +61,7 @@ returns g c =
     record {
       result = (no_fault L n bs fs h ok.0 ok.1.0 ok.1.1 m none, rest);
       book = book;
+      parts = c.fill-filled.ensures.parts;
       nodes = nodes;
       edges = edges;
       fits = fits_there L n bs fs h ok.0 ok.1.0 ok.1.1 m none c.fill-filled.new.self left after book rest both;

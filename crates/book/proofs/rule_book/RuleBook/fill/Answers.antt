@@ -14,3 +14,10 @@ invariant_of-self c =
       sign_room = subst (λ n. 16 ≤ n) (sym c.refill-2.ensures.capacity) c.self.invariant.sign_room;
       parts = every_read (has_part h.places) read h.rules (vec_items c.refill.new.rows) filled (sym c.if-not-all_parts.ensures);
     }
+
+-- the rules that were written are those that the invariant speaks of
+pub returns-clause-parts : goal.returns-clause-parts
+returns-clause-parts c =
+    let h = c.args.file.now.header in
+    let read = rule_row c.args.file.now.bytes.now h in
+    every_read (has_part h.places) read h.rules (vec_items c.refill.new.rows) (c.refill.ensures.items read (λ i x l k. search rules)) (sym c.if-not-all_parts.ensures)
