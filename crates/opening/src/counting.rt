@@ -23,7 +23,7 @@ fn count_rules(file: &CaseFile, label: u16) -> u32
     ensures result { result ≡ length (rules_for label 0 (book_in file.now.bytes.now file.now.header).rules) }
     ensures few { result ≤ file.now.header.rules }
 {
-    // a sum of tests, since a filter's count takes a branch for each rule, which costs half the time again
+    // a sum of tests, since a filter's count branches at each rule, for up to 1.4 times the time of an opening
     (0..file.header.rules)
         .map(|r| u32::from(file.label(r, file.header.places) == label))
         .sum()
